@@ -1,0 +1,1 @@
+// Bytes and numbers.
