@@ -1,0 +1,83 @@
+-- The digits of a number and the number of digits undo one another, in every base and at every width.
+-- Assumes nothing.
+use mathlib.Core.Path.{_≡_, refl, sym, ap, ap₂, _∙_}
+use mathlib.Core.List.{List, [], _∷_, _++_}
+use Prim.Native.Nat.{ℕ, zero, suc, _+_, _*_, _/_, _%_, _^_, _<_, suc-le-suc}
+use native.Mathlib.Nat.{add-suc, suc-add, add-zero, mul-assoc, add-mul, pow-zero, pow-suc, pow-succ', mul-left-comm, mod-one, mod-lt, mod-eq-of-lt, one-le-pow, mul-add-div, mul-add-mod-self-right}
+use native.Mathlib.Omega.{arith}
+use lib.Arith.{digits-div, digits-lt, mod-mul}
+use lib.ListN.{length, getD, take, drop, length-append, List·getD-eq-default}
+use lib.Pow.{pow-add}
+use Rattle.text.specs.Numbers.{digits, value, Below}
+
+pub base-positive : {b : ℕ} (ds : List ℕ) → Below b ds → 0 < b
+base-positive ds below = omega (arith, below (length ds), List·getD-eq-default ds 0 {n = length ds} (omega arith))
+
+pub digits-length : (b n x : ℕ) → length (digits b n x) ≡ n
+unfolding digits
+digits-length b zero x = refl
+digits-length b (suc n) x = ap suc (digits-length b n x)
+
+pub digits-below : {b : ℕ} (n x : ℕ) → 0 < b → Below b (digits b n x)
+unfolding digits
+digits-below zero x pos i = pos
+digits-below {b} (suc n) x pos zero = mod-lt (x / b ^ n) pos
+digits-below (suc n) x pos (suc i) = digits-below n x pos i
+
+pub value-digits : {b : ℕ} (n x : ℕ) → 0 < b → value b (digits b n x) ≡ x % b ^ n
+unfolding digits value
+value-digits {b} zero x pos = sym (ap (λ (m : ℕ). x % m) (pow-zero b) ∙ mod-one x)
+value-digits {b} (suc n) x pos =
+    ap₂ (λ (k v : ℕ). (x / b ^ n % b) * b ^ k + v) (digits-length b n x) (value-digits n x pos)
+    ∙ sym (ap (λ (m : ℕ). x % m) (pow-succ' b n) ∙ mod-mul x pos (one-le-pow n b pos))
+
+-- the number fits its digits
+pub value-digits-fit : {b : ℕ} (n x : ℕ) → 0 < b → x < b ^ n → value b (digits b n x) ≡ x
+value-digits-fit n x pos fits = value-digits n x pos ∙ mod-eq-of-lt fits
+
+pub value-below : {b : ℕ} (ds : List ℕ) → Below b ds → value b ds < b ^ length ds
+unfolding value
+value-below [] below = rw pow-zero (omega arith)
+value-below {b} (d ∷ ds) below =
+    rw pow-succ' (digits-lt (below 0) (value-below ds (λ i. below (suc i))))
+
+-- what lies above the n lowest digits does not change them
+high-part : (b n k q r : ℕ) → 0 < b → digits b n (q * b ^ (n + k) + r) ≡ digits b n r
+unfolding digits
+high-part b zero k q r pos = refl
+high-part b (suc n) k q r pos =
+    ap₂ (λ (d : ℕ) (ds : List ℕ). d ∷ ds)
+    (ap (λ (m : ℕ). (m + r) / b ^ n % b) shifted
+    ∙ ap (λ (m : ℕ). m % b) (mul-add-div (one-le-pow n b pos) (q * b ^ k * b) r)
+    ∙ mul-add-mod-self-right (q * b ^ k) b (r / b ^ n))
+    (ap (λ (m : ℕ). digits b n (q * b ^ m + r)) (suc-add n k ∙ sym (add-suc n k)) ∙ high-part b n (suc k) q r pos)
+  where
+    shifted : q * b ^ (suc n + k) ≡ b ^ n * (q * b ^ k * b)
+    shifted =
+        ap (λ (m : ℕ). q * b ^ m) (suc-add n k)
+        ∙ rw (pow-suc, pow-add, mul-assoc (b ^ n), mul-left-comm q, mul-assoc q)
+
+pub digits-value : {b : ℕ} (ds : List ℕ) → Below b ds → digits b (length ds) (value b ds) ≡ ds
+unfolding digits value
+digits-value [] below = refl
+digits-value {b} (d ∷ ds) below =
+    ap₂ (λ (e : ℕ) (es : List ℕ). e ∷ es)
+    (ap (λ (m : ℕ). m % b) (digits-div d (value-below ds rest)) ∙ mod-eq-of-lt (below 0))
+    (ap (λ (m : ℕ). digits b (length ds) (d * b ^ m + value b ds)) (sym (add-zero (length ds)))
+    ∙ high-part b (length ds) 0 d (value b ds) (base-positive ds rest)
+    ∙ digits-value ds rest)
+  where
+    rest : Below b ds
+    rest i = below (suc i)
+
+-- digits are told apart by their number, at one length
+pub value-injective : {b : ℕ} (ds es : List ℕ) → Below b ds → Below b es → length ds ≡ length es → value b ds ≡ value b es → ds ≡ es
+value-injective {b} ds es d e same-length same =
+    sym (digits-value ds d) ∙ ap₂ (digits b) same-length same ∙ digits-value es e
+
+pub value-append : (b : ℕ) (ds es : List ℕ) → value b (ds ++ es) ≡ value b ds * b ^ length es + value b es
+unfolding value
+value-append b [] es = omega arith
+value-append b (d ∷ ds) es =
+    ap₂ (λ (k v : ℕ). d * b ^ k + v) (length-append ds es) (value-append b ds es)
+    ∙ rw (pow-add, add-mul, mul-assoc) (omega arith)

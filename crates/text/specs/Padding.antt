@@ -1,0 +1,26 @@
+-- 01's padding: "fills up to 8 bytes with the count of bytes added: 5 bytes get three 03, 4 bytes get four 04".
+use mathlib.Core.Bool.{Bool, cond}
+use mathlib.Core.List.{List, _++_}
+use Prim.Native.Nat.{ℕ, _-_, _/_, _^_}
+use lib.Dec.{eqb}
+use lib.ListN.{length, drop, replicate}
+use Rattle.text.specs.Numbers.{bytesOf, numberOf}
+use Rattle.text.specs.Characters.{allOf}
+use Rattle.text.specs.declared.padding.Unpadded.{Unpadded}
+use Rattle.text.specs.declared.padding.Unpadded.the-variants.{Number, Wrong}
+
+-- s filled up to 8 bytes with the count of bytes added
+unfoldable pub padded : List ℕ → List ℕ
+padded s = s ++ replicate (8 - length s) (8 - length s)
+
+-- the block, a number of 8 bytes, of the number x of n bytes
+unfoldable pub padOf : ℕ → ℕ → ℕ
+padOf n x = numberOf (padded (bytesOf n x))
+
+-- the last 8 - n bytes of the block are the count of bytes added
+unfoldable pub isPadded : ℕ → ℕ → Bool
+isPadded n block = allOf (λ (b : ℕ). eqb b (8 - n)) (drop n (bytesOf 8 block))
+
+-- the number of n bytes that the block was made of
+unfoldable pub unpadOf : ℕ → ℕ → Unpadded
+unpadOf n block = cond (isPadded n block) (Number (block / 256 ^ (8 - n))) Wrong

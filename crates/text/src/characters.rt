@@ -1,0 +1,67 @@
+// Hex characters, digits, and the alphabets.
+ghost use mathlib.Core.Path.{_≡_};
+ghost use Prim.Native.Nat.{_%_};
+ghost use Rattle.text.specs.Characters.{between, isDigit, isHex, isNameCharacter, hexValue, hexCharacter, digitValue, digitCharacter};
+
+// Whether c is one of the characters from low to high.
+fn within(low: u8, high: u8, c: u8) -> bool
+    ensures { λ r. ⌜ r ≡ between low high c ⌝ }
+{
+    low <= c && c <= high
+}
+
+// 0-9.
+pub fn is_digit(c: u8) -> bool
+    ensures { λ r. ⌜ r ≡ isDigit c ⌝ }
+{
+    within(b'0', b'9', c)
+}
+
+// 0-9 A-F.
+pub fn is_hex(c: u8) -> bool
+    ensures { λ r. ⌜ r ≡ isHex c ⌝ }
+{
+    is_digit(c) || within(b'A', b'F', c)
+}
+
+// A-Z 0-9.
+pub fn is_name_character(c: u8) -> bool
+    ensures { λ r. ⌜ r ≡ isNameCharacter c ⌝ }
+{
+    is_digit(c) || within(b'A', b'Z', c)
+}
+
+// 0 to 15; 16 for a byte that is no hex character.
+pub fn hex_value(c: u8) -> u8
+    ensures { λ r. ⌜ r ≡ hexValue c ⌝ }
+{
+    if is_digit(c) {
+        c - 48
+    } else if within(b'A', b'F', c) {
+        c - 55
+    } else {
+        16
+    }
+}
+
+// The hex character, upper case, of the low four bits.
+pub fn hex_character(v: u8) -> u8
+    ensures { λ r. ⌜ r ≡ hexCharacter (v % 16) ⌝ }
+{
+    let low = v % 16;
+    if low < 10 { 48 + low } else { 55 + low }
+}
+
+// 0 to 9; 10 for a byte that is no digit.
+pub fn digit_value(c: u8) -> u8
+    ensures { λ r. ⌜ r ≡ digitValue c ⌝ }
+{
+    if is_digit(c) { c - 48 } else { 10 }
+}
+
+// The digit of the remainder by ten.
+pub fn digit_character(v: u8) -> u8
+    ensures { λ r. ⌜ r ≡ digitCharacter (v % 10) ⌝ }
+{
+    48 + v % 10
+}
