@@ -1,0 +1,2 @@
+pub mod Shifts
+pub mod OneChange

@@ -1,0 +1,3 @@
+pub mod Crc32
+pub mod OneChange
+pub mod Table
