@@ -1,0 +1,44 @@
+-- What has 4 to 56 bytes is a key, and nothing else is.
+-- Assumes nothing.
+use mathlib.Core.Path.{_≡_, ap, ap₂, _∙_}
+use mathlib.Core.Bool.{Bool, true, false, _&&_, and-false}
+use mathlib.Core.List.{List}
+use Prim.Native.Nat.{ℕ, _<_, _≤_}
+use borrow.Author.Tests.{le-leb, lt-leb}
+use lib.Dec.{leb}
+use lib.ListN.{length}
+use Rattle.blowfish.specs.Pi.{startWords}
+use Rattle.blowfish.specs.Schedule.{isKey, keyNumber, keyed, filled, schedule, scheduled}
+
+module _ (key before : List ℕ) where
+  too-short : length key < 4 → isKey key ≡ false
+  unfolding isKey
+  too-short h = ap (λ (t : Bool). t && leb (length key) 56) (lt-leb 4 (length key) h)
+
+  too-long : 56 < length key → isKey key ≡ false
+  unfolding isKey
+  too-long h = ap (λ (t : Bool). leb 4 (length key) && t) (lt-leb (length key) 56 h) ∙ and-false (leb 4 (length key))
+
+  good : 4 ≤ length key → length key ≤ 56 → isKey key ≡ true
+  unfolding isKey
+  good h k = ap₂ (λ (t u : Bool). t && u) (le-leb 4 (length key) h) (le-leb (length key) 56 k)
+
+  no-key : isKey key ≡ false → (103 ≡ keyNumber key) × (before ≡ scheduled key before)
+  unfolding keyNumber scheduled
+  no-key e = (rw e, rw e)
+
+  pub refused-short : length key < 4 → (103 ≡ keyNumber key) × (before ≡ scheduled key before)
+  refused-short h = no-key (too-short h)
+
+  pub refused-long : 56 < length key → (103 ≡ keyNumber key) × (before ≡ scheduled key before)
+  refused-long h = no-key (too-long h)
+
+  pub taken : 4 ≤ length key → length key ≤ 56 → (0 ≡ keyNumber key) × (schedule key ≡ scheduled key before)
+  unfolding keyNumber scheduled
+  taken h k = let e : isKey key ≡ true = good h k in (rw e, rw e)
+
+  -- start, combine, fill
+  pub steps : (w₁ w₂ w₃ : List ℕ) → w₁ ≡ startWords → w₂ ≡ keyed key 18 w₁ → w₃ ≡ filled 521 (record { words = w₂; block = 0 }) .words → w₃ ≡ schedule key
+  unfolding schedule
+  steps w₁ w₂ w₃ e₁ e₂ e₃ =
+      e₃ ∙ ap (λ (w : List ℕ). filled 521 (record { words = w; block = 0 }) .words) (e₂ ∙ ap (keyed key 18) e₁)

@@ -1,0 +1,4 @@
+pub mod Turns
+pub mod KeyWords
+pub mod Keys
+pub mod PiWords

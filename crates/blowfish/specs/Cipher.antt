@@ -1,0 +1,69 @@
+-- Blowfish on one block (01, "Cipher and checksum"). The words of a key stand in one list: P1 to P18, then S1, S2, S3 and S4 of 256 each.
+use mathlib.Core.List.{List}
+use Prim.Native.Nat.{ℕ, zero, suc, _+_, _-_, _*_, _/_, _%_, _^_}
+use lib.Bits.{bitXor}
+use lib.ListN.{getD}
+
+-- P1 to P18, counted from 0
+abbrev pub P : List ℕ → ℕ → ℕ
+P w i = getD w i 0
+
+abbrev pub S1 : List ℕ → ℕ → ℕ
+S1 w a = getD w (18 + a) 0
+
+abbrev pub S2 : List ℕ → ℕ → ℕ
+S2 w b = getD w (274 + b) 0
+
+abbrev pub S3 : List ℕ → ℕ → ℕ
+S3 w c = getD w (530 + c) 0
+
+abbrev pub S4 : List ℕ → ℕ → ℕ
+S4 w d = getD w (786 + d) 0
+
+-- adds S1[a] and S2[b], combines with S3[c], adds S4[d]; a, b, c, d are the bytes of x from the top
+unfoldable pub F : List ℕ → ℕ → ℕ
+F w x =
+    (bitXor ((S1 w (x / 2 ^ 24 % 256) + S2 w (x / 2 ^ 16 % 256)) % 2 ^ 32) (S3 w (x / 2 ^ 8 % 256)) + S4 w (x % 256)) % 2 ^ 32
+
+-- a block: the words L and R
+pub record Block : Type 0 where
+  pub left : ℕ
+  pub right : ℕ
+
+abbrev pub exchange : Block → Block
+exchange b = record { left = b .right; right = b .left }
+
+-- L xor p, then R xor f(L), then exchange
+abbrev pub round : (ℕ → ℕ) → ℕ → Block → Block
+round f p b =
+    exchange (record { left = bitXor (b .left) p; right = bitXor (b .right) (f (bitXor (b .left) p)) })
+
+-- n rounds, with the words p 0, p 1, ..
+unfoldable pub rounds : (ℕ → ℕ) → (ℕ → ℕ) → ℕ → Block → Block
+rounds f p zero b = b
+rounds f p (suc n) b = round f (p n) (rounds f p n b)
+
+-- R xor the seventeenth word, L xor the eighteenth
+abbrev pub whiten : (ℕ → ℕ) → Block → Block
+whiten p b = record { left = bitXor (b .left) (p 17); right = bitXor (b .right) (p 16) }
+
+-- sixteen rounds, the last exchange undone, and the last two words
+unfoldable pub cipher : (ℕ → ℕ) → (ℕ → ℕ) → Block → Block
+cipher f p b = whiten p (exchange (rounds f p 16 b))
+
+-- P from the far end
+abbrev pub farEnd : List ℕ → ℕ → ℕ
+farEnd w i = P w (17 - i)
+
+-- a block of eight bytes, read big-endian
+abbrev pub blockOf : ℕ → Block
+blockOf x = record { left = x / 2 ^ 32; right = x % 2 ^ 32 }
+
+abbrev pub numberOf : Block → ℕ
+numberOf b = b .left * 2 ^ 32 + b .right
+
+unfoldable pub encipherOf : List ℕ → ℕ → ℕ
+encipherOf w x = numberOf (cipher (F w) (P w) (blockOf x))
+
+unfoldable pub decipherOf : List ℕ → ℕ → ℕ
+decipherOf w x = numberOf (cipher (F w) (farEnd w) (blockOf x))

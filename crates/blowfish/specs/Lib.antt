@@ -1,0 +1,4 @@
+pub mod Pi
+pub mod Cipher
+pub mod Schedule
+pub mod Overlaid

@@ -1,0 +1,147 @@
+// Blowfish: a key's words, and enciphering and deciphering a block with them.
+// The words stand in one array: P1 to P18, then S1, S2, S3 and S4 of 256 each. Whoever holds a key's words lends them to each call.
+ghost use mathlib.Core.Path.{_≡_};
+ghost use Prim.Native.Nat.{_+_, _*_, _/_, _%_, _^_, _<_};
+ghost use lib.ListN.{length};
+ghost use Rattle.blowfish.specs.Cipher.{F, encipherOf, decipherOf};
+ghost use Rattle.blowfish.specs.Schedule.{keyWord, keyed, filled, keyNumber, scheduled};
+
+mod start;
+
+// 01's F.
+fn round_function(words: &[u32; 1042], x: u32) -> u32
+    ensures { λ r. ⌜ r ≡ F (now (words .entry)) x ⌝ }
+{
+    let a = words[18 + (x / 16777216 % 256) as usize];
+    let b = words[274 + (x / 65536 % 256) as usize];
+    let c = words[530 + (x / 256 % 256) as usize];
+    let d = words[786 + (x % 256) as usize];
+    std::num::wrapping_add_u32(std::num::wrapping_add_u32(a, b) ^ c, d)
+}
+
+fn left(block: u64) -> u32
+    ensures { λ r. ⌜ r ≡ block / 2 ^ 32 ⌝ }
+{
+    (block / 4294967296) as u32
+}
+
+fn right(block: u64) -> u32
+    ensures { λ r. ⌜ r ≡ block % 2 ^ 32 ⌝ }
+{
+    (block % 4294967296) as u32
+}
+
+fn joined(left: u32, right: u32) -> u64
+    ensures { λ r. ⌜ r ≡ left * 2 ^ 32 + right ⌝ }
+{
+    (left as u64) * 4294967296 + (right as u64)
+}
+
+// The block enciphered. A turn holds L and R with the next words of P already combined, which keeps one step off the longest way through a round.
+pub fn encipher(words: &[u32; 1042], block: u64) -> u64
+    ensures { λ r. ⌜ r ≡ encipherOf (now (words .entry)) block ⌝ }
+{
+    let mut l = left(block) ^ words[0];
+    let mut r = right(block) ^ words[1];
+    let mut i: usize = 0;
+    while i < 16 {
+        let next = r ^ round_function(words, l);
+        r = l ^ words[i + 2];
+        l = next;
+        i += 1;
+    }
+    joined(r, l)
+}
+
+// The block deciphered: the same with P from the far end.
+pub fn decipher(words: &[u32; 1042], block: u64) -> u64
+    ensures { λ r. ⌜ r ≡ decipherOf (now (words .entry)) block ⌝ }
+{
+    let mut l = left(block) ^ words[17];
+    let mut r = right(block) ^ words[16];
+    let mut i: usize = 0;
+    while i < 16 {
+        let next = r ^ round_function(words, l);
+        r = l ^ words[15 - i];
+        l = next;
+        i += 1;
+    }
+    joined(r, l)
+}
+
+// Four bytes of the key as a word, and the place after them; the key is read round and round.
+struct KeyWord {
+    word: u32,
+    after: usize,
+}
+
+fn following(key: &[u8], at: usize) -> usize
+    requires { ⌜ at < length (now key) ⌝ }
+    ensures { λ r. ⌜ (r ≡ (at + 1) % length (now (key .entry))) × (r < length (now (key .entry))) ⌝ }
+{
+    if at + 1 < key.len() { at + 1 } else { 0 }
+}
+
+fn word(a: u8, b: u8, c: u8, d: u8) -> u32
+    ensures { λ r. ⌜ r ≡ a * 2 ^ 24 + b * 2 ^ 16 + c * 2 ^ 8 + d ⌝ }
+{
+    (a as u32) * 16777216 + (b as u32) * 65536 + (c as u32) * 256 + (d as u32)
+}
+
+fn key_word(key: &[u8], at: usize) -> KeyWord
+    requires { ⌜ at < length (now key) ⌝ }
+    ensures { λ r. ⌜ (r .word ≡ keyWord (now (key .entry)) at) × ((r .after ≡ (at + 4) % length (now (key .entry))) × (r .after < length (now (key .entry)))) ⌝ }
+{
+    let b = following(key, at);
+    let c = following(key, b);
+    let d = following(key, c);
+    KeyWord {
+        word: word(key[at], key[b], key[c], key[d]),
+        after: following(key, d),
+    }
+}
+
+// The words of P combined with the key.
+fn combine(key: &[u8], words: &mut [u32; 1042])
+    requires { ⌜ 0 < length (now key) ⌝ }
+    ensures { λ _. ⌜ now (words .exit) ≡ keyed (now (key .entry)) 18 (now (words .entry)) ⌝ }
+{
+    let mut at: usize = 0;
+    let mut i: usize = 0;
+    while i < 18 {
+        let k = key_word(key, at);
+        words[i] = words[i] ^ k.word;
+        at = k.after;
+        i += 1;
+    }
+}
+
+// The zero block enciphered again and again, each result replacing the next two words.
+fn fill(words: &mut [u32; 1042])
+    ensures { λ _. ⌜ now (words .exit) ≡ filled 521 (record { words = now (words .entry); block = 0 }) .words ⌝ }
+{
+    let mut block: u64 = 0;
+    let mut i: usize = 0;
+    while i < 521 {
+        block = encipher(words, block);
+        words[2 * i] = left(block);
+        words[2 * i + 1] = right(block);
+        i += 1;
+    }
+}
+
+// The words of a key: 0; or 103 for a key that has not 4 to 56 bytes, and the words stay as they were.
+pub fn key_schedule(key: &[u8], words: &mut [u32; 1042]) -> u32
+    ensures { λ r. ⌜ (r ≡ keyNumber (now (key .entry))) × (now (words .exit) ≡ scheduled (now (key .entry)) (now (words .entry))) ⌝ }
+{
+    if key.len() < 4 {
+        return 103;
+    }
+    if 56 < key.len() {
+        return 103;
+    }
+    *words = start::start();
+    combine(key, words);
+    fill(words);
+    0
+}
