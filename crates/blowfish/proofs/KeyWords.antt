@@ -31,4 +31,4 @@ module _ (key : List ℕ) where
   -- a word of the key depends on its place within the key alone
   pub word-round : (i : ℕ) → keyWord key (i % length key) ≡ keyWord key i
   unfolding keyWord
-  word-round i = rw (mod-mod, mod-add-mod, mod-add-mod, mod-add-mod)
+  word-round i = simp (mod-mod, mod-add-mod)

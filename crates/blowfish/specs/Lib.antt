@@ -1,4 +1,5 @@
 pub mod Pi
 pub mod Cipher
 pub mod Schedule
+pub mod BackAgain
 pub mod Overlaid
