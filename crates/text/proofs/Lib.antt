@@ -1,3 +1,6 @@
 pub mod Xor
 pub mod Tables
 pub mod Digits
+pub mod Every
+pub mod Alphabets
+pub mod Notations
