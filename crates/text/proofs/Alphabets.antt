@@ -52,15 +52,15 @@ module _ {b : ℕ} {character valueOf : ℕ → ℕ} {read written : ℕ → Boo
   text-length n x = length-map (digits b n x) character ∙ digits-length b n x
 
   pub text-written : (n x : ℕ) → allOf written (map character (digits b n x)) ≡ true
-  text-written n x = characters-written (digits b n x) (digits-below n x (alphabet .positive))
+  text-written n x = characters-written (digits b n x) (digits-below b n x (alphabet .positive))
 
   pub written-is-read : (s : List ℕ) → allOf written s ≡ true → allOf read s ≡ true
   written-is-read = all-weaken written read (alphabet .written-read)
 
   pub number-of-text : (n x : ℕ) → value b (map valueOf (map character (digits b n x))) ≡ x % b ^ n
   number-of-text n x =
-      ap (value b) (values-back (digits b n x) (digits-below n x (alphabet .positive)))
-      ∙ value-digits n x (alphabet .positive)
+      ap (value b) (values-back (digits b n x) (digits-below b n x (alphabet .positive)))
+      ∙ value-digits b n x (alphabet .positive)
 
   pub number-of-text-fit : (n x : ℕ) → x < b ^ n → value b (map valueOf (map character (digits b n x))) ≡ x
   number-of-text-fit n x fits = number-of-text n x ∙ mod-eq-of-lt fits

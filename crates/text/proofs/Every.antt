@@ -19,6 +19,11 @@ pub either {ℓ} : {P : Type ℓ} (t : Bool) → (t ≡ true → P) → (t ≡ f
 either true one other = one refl
 either false one other = other refl
 
+pub same-tests : (a b : Bool) → (a ≡ true → b ≡ true) → (b ≡ true → a ≡ true) → a ≡ b
+same-tests true b there back = sym (there refl)
+same-tests false true there back = back refl
+same-tests false false there back = refl
+
 module _ (test : ℕ → Bool) where
   pub all-first : (c : ℕ) (s : List ℕ) → allOf test (c ∷ s) ≡ true → test c ≡ true
   unfolding allOf

@@ -4,3 +4,4 @@ pub mod Digits
 pub mod Every
 pub mod Alphabets
 pub mod Notations
+pub mod Pads
