@@ -5,3 +5,4 @@ pub mod Every
 pub mod Alphabets
 pub mod Notations
 pub mod Pads
+pub mod Places
