@@ -3,7 +3,7 @@
 use mathlib.Core.Path.{_≡_, refl, sym, ap, ap₂, _∙_}
 use mathlib.Core.List.{List, [], _∷_, _++_}
 use mathlib.Core.Logic.{⊎-elim}
-use Prim.Native.Nat.{ℕ, zero, suc, _+_, _*_, _%_, _^_, _≤_, _<_}
+use Prim.Native.Nat.{ℕ, zero, suc, _+_, _-_, _*_, _%_, _^_, _≤_, _<_}
 use native.Mathlib.Nat.{one-le-pow, add-assoc}
 use native.Mathlib.Omega.{arith}
 use borrow.Author.Tests.{le-leb, lt-leb, leb-true, leb-false}
@@ -13,7 +13,7 @@ use lib.Seq.{take-nil, drop-cons, drop-drop, take-add, take-at, drop-at, getD-dr
 use Rattle.text.specs.Numbers.{digits, value, Below, bytesOf, numberOf}
 use Rattle.text.specs.Places.{numberAt}
 use Rattle.text.proofs.Digits.{digits-length, value-digits, value-below, digits-value, value-append, base-positive}
-use Rattle.text.proofs.Every.{either}
+use Rattle.text.proofs.Every.{either, same-tests}
 
 module _ (n : ℕ) (s : List ℕ) (at : ℕ) where
   pub number-within : at + n ≤ length s → numberAt n s at ≡ numberOf (take n (drop at s))
@@ -70,3 +70,13 @@ number-join m n s at h =
     number-within (m + n) s at h
     ∙ (rw (take-add, drop-drop, value-append, part-length n s (at + m) (omega arith)))
     ∙ sym (ap₂ (λ (x y : ℕ). x * 256 ^ n + y) (number-within m s at (omega arith)) (number-within n s (at + m) (omega arith)))
+
+-- n bytes from a place lie within, tested by the room that is left there
+pub room : (n size at : ℕ) → at ≤ size → leb n (size - at) ≡ leb (at + n) size
+room n size at h =
+    same-tests (leb n (size - at)) (leb (at + n) size)
+    (λ e. le-leb (at + n) size (omega (arith, leb-true n (size - at) e)))
+    (λ e. le-leb n (size - at) (omega (arith, leb-true (at + n) size e)))
+
+pub no-room : (n size at : ℕ) → size < at → leb at size ≡ leb (at + n) size
+no-room n size at h = lt-leb at size h ∙ sym (lt-leb (at + n) size (omega arith))

@@ -34,6 +34,20 @@ fn four_bytes(s: &[u8], at: usize) -> u32
     two_bytes(s, at) as u32 * 65536 + two_bytes(s, at + 2) as u32
 }
 
+fn five_bytes(s: &[u8], at: usize) -> u64
+    requires { ⌜ at + 5 ≤ length (now s) ⌝ }
+    ensures { λ r. ⌜ r ≡ numberAt 5 (now (s .entry)) at ⌝ }
+{
+    one_byte(s, at) as u64 * 4294967296 + four_bytes(s, at + 1) as u64
+}
+
+fn eight_bytes(s: &[u8], at: usize) -> u64
+    requires { ⌜ at + 8 ≤ length (now s) ⌝ }
+    ensures { λ r. ⌜ r ≡ numberAt 8 (now (s .entry)) at ⌝ }
+{
+    four_bytes(s, at) as u64 * 4294967296 + four_bytes(s, at + 4) as u64
+}
+
 // The number of the two bytes from place at; 0 where they do not lie within s.
 pub fn number16(s: &[u8], at: usize) -> u16
     ensures { λ r. ⌜ r ≡ numberAt 2 (now (s .entry)) at ⌝ }
@@ -52,22 +66,14 @@ pub fn number32(s: &[u8], at: usize) -> u32
 pub fn number40(s: &[u8], at: usize) -> u64
     ensures { λ r. ⌜ r ≡ numberAt 5 (now (s .entry)) at ⌝ }
 {
-    if lies_within(s, at, 5) {
-        one_byte(s, at) as u64 * 4294967296 + four_bytes(s, at + 1) as u64
-    } else {
-        0
-    }
+    if lies_within(s, at, 5) { five_bytes(s, at) } else { 0 }
 }
 
 // The same of eight bytes.
 pub fn number64(s: &[u8], at: usize) -> u64
     ensures { λ r. ⌜ r ≡ numberAt 8 (now (s .entry)) at ⌝ }
 {
-    if lies_within(s, at, 8) {
-        four_bytes(s, at) as u64 * 4294967296 + four_bytes(s, at + 4) as u64
-    } else {
-        0
-    }
+    if lies_within(s, at, 8) { eight_bytes(s, at) } else { 0 }
 }
 
 // The two bytes of x.

@@ -1,0 +1,16 @@
+use borrow.Author.Needs.{needs}
+use Rattle.text.proofs.padding.unpad32.Statement.{statement}
+use Rattle.text.proofs.padding.unpad32.Tie as tie
+use Rattle.text.proofs.padding.unpad32.Reads as reads
+use Rattle.text.proofs.padding.unpad32.Lts as lts
+
+-- src/padding.rt:26:1
+returns : tie.Need-returns
+returns c = search needs
+
+-- src/padding.rt:26:1
+returns-2 : tie.Need-returns-2
+returns-2 c = search needs
+
+pub unpad32-spec : {M : Type 1} → statement M
+unpad32-spec = tie.close (tie.spec returns returns-2)
