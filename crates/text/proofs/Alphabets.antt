@@ -75,7 +75,7 @@ module _ {b : ℕ} {character valueOf : ℕ → ℕ} {read written : ℕ → Boo
 
   -- written texts of one length are told apart by their number
   pub text-injective : (s t : List ℕ) → allOf written s ≡ true → allOf written t ≡ true → length s ≡ length t
-    → value b (map valueOf s) ≡ value b (map valueOf t) → s ≡ t
+      → value b (map valueOf s) ≡ value b (map valueOf t) → s ≡ t
   text-injective s t s-all t-all same-length same =
       sym (text-of-number s s-all)
       ∙ ap₂ (λ (n x : ℕ). map character (digits b n x)) same-length same

@@ -60,7 +60,8 @@ hex =
       value-back = λ v fits. eqb→eq _ v (computed 16 (λ (k : ℕ). eqb (hexValue (hexCharacter k)) k) tt v fits);
       character-written = λ v fits. T-true _ (computed 16 (λ (k : ℕ). isUpperHex (hexCharacter k)) tt v fits);
       character-back = hex-back;
-      written-read = λ c e. e }
+      written-read = λ c e. e;
+    }
 
 digit-exactly : (c : ℕ) → isDigit c ≡ ltb (digitValue c) 10
 unfolding digitValue
@@ -82,4 +83,5 @@ decimal =
       value-back = λ v fits. eqb→eq _ v (computed 10 (λ (k : ℕ). eqb (digitValue (digitCharacter k)) k) tt v fits);
       character-written = λ v fits. T-true _ (computed 10 (λ (k : ℕ). isDigit (digitCharacter k)) tt v fits);
       character-back = digit-back;
-      written-read = λ c e. e }
+      written-read = λ c e. e;
+    }

@@ -6,7 +6,7 @@ use mathlib.Core.List.{List, [], _∷_, _++_}
 use Prim.Native.Nat.{ℕ, zero, suc, _+_, _-_, _*_, _/_, _%_, _^_, _≤_, _<_}
 use native.Mathlib.Nat.{mod-lt, mod-eq-of-lt, one-le-pow, div-add-mod', div-lt-iff-lt-mul}
 use native.Mathlib.Omega.{arith}
-use borrow.Author.Tests.{eqb-true, eq-eqb}
+use borrow.Author.Tests.{eqb-true, eq-eqb, ne-eqb}
 use lib.Arith.{digits-div, digits-mod, digits-lt}
 use lib.Dec.{eqb}
 use lib.ListN.{length, getD, drop, replicate, length-replicate}
@@ -51,11 +51,13 @@ low-bytes k x h = same-tests _ _ there back
     there all =
         eq-eqb (x % 256 ^ k) (filling k)
         (sym (value-digits 256 k x (omega arith)) ∙ ap numberOf (rw digits-length at (all-same k (bytesOf k x) all)))
+
     bytes : x % 256 ^ k ≡ filling k → bytesOf k x ≡ replicate k k
     bytes e =
         sym (digits-of-low 256 k x (omega arith))
         ∙ ap (digits 256 k) e
         ∙ rw length-replicate at (digits-value (replicate k k) (replicate-below 256 k k (omega arith)))
+
     back : eqb (x % 256 ^ k) (filling k) ≡ true → allOf (λ (e : ℕ). eqb e k) (bytesOf k x) ≡ true
     back e =
         ap (allOf (λ (e : ℕ). eqb e k)) (bytes (eqb-true (x % 256 ^ k) (filling k) e))
@@ -92,6 +94,14 @@ module _ (n : ℕ) where
     pub pad-below : (x : ℕ) → padOf n x < 256 ^ 8
     pad-below x =
         rw (pad-sum x, block-size) (digits-lt (mod-lt x (one-le-pow n 256 (omega arith))) (filling-below (8 - n) (omega arith)))
+
+    pub unpad-right : (block : ℕ) → block % 256 ^ (8 - n) ≡ filling (8 - n) → unpadOf n block ≡ Number (block / 256 ^ (8 - n))
+    unfolding unpadOf
+    unpad-right block e = rw (padded-exactly block ∙ eq-eqb _ _ e)
+
+    pub unpad-wrong : (block : ℕ) → (block % 256 ^ (8 - n) ≡ filling (8 - n) → ⊥) → unpadOf n block ≡ Wrong
+    unfolding unpadOf
+    unpad-wrong block ne = rw (padded-exactly block ∙ ne-eqb _ _ ne)
 
     -- what a block that passes the test was made of
     parts : (block x : ℕ) → unpadOf n block ≡ Number x → (x ≡ block / 256 ^ (8 - n)) × (block % 256 ^ (8 - n) ≡ filling (8 - n))

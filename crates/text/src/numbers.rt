@@ -52,28 +52,44 @@ fn eight_bytes(s: &[u8], at: usize) -> u64
 pub fn number16(s: &[u8], at: usize) -> u16
     ensures { λ r. ⌜ r ≡ numberAt 2 (now (s .entry)) at ⌝ }
 {
-    if lies_within(s, at, 2) { two_bytes(s, at) } else { 0 }
+    if lies_within(s, at, 2) {
+        two_bytes(s, at)
+    } else {
+        0
+    }
 }
 
 // The same of four bytes.
 pub fn number32(s: &[u8], at: usize) -> u32
     ensures { λ r. ⌜ r ≡ numberAt 4 (now (s .entry)) at ⌝ }
 {
-    if lies_within(s, at, 4) { four_bytes(s, at) } else { 0 }
+    if lies_within(s, at, 4) {
+        four_bytes(s, at)
+    } else {
+        0
+    }
 }
 
 // The same of five bytes.
 pub fn number40(s: &[u8], at: usize) -> u64
     ensures { λ r. ⌜ r ≡ numberAt 5 (now (s .entry)) at ⌝ }
 {
-    if lies_within(s, at, 5) { five_bytes(s, at) } else { 0 }
+    if lies_within(s, at, 5) {
+        five_bytes(s, at)
+    } else {
+        0
+    }
 }
 
 // The same of eight bytes.
 pub fn number64(s: &[u8], at: usize) -> u64
     ensures { λ r. ⌜ r ≡ numberAt 8 (now (s .entry)) at ⌝ }
 {
-    if lies_within(s, at, 8) { eight_bytes(s, at) } else { 0 }
+    if lies_within(s, at, 8) {
+        eight_bytes(s, at)
+    } else {
+        0
+    }
 }
 
 // The two bytes of x.

@@ -1,16 +1,18 @@
-use borrow.Author.Needs.{needs}
+-- `text::padding::unpad32` meets its contract: the padding is tested as one number. Assumes nothing.
+use mathlib.Core.Path.{sym}
+use native.Mathlib.Omega.{arith}
+use Rattle.text.specs.Numbers.{value}
+use Rattle.text.proofs.Pads.{unpad-right, unpad-wrong}
 use Rattle.text.proofs.padding.unpad32.Statement.{statement}
 use Rattle.text.proofs.padding.unpad32.Tie as tie
-use Rattle.text.proofs.padding.unpad32.Reads as reads
-use Rattle.text.proofs.padding.unpad32.Lts as lts
 
--- src/padding.rt:26:1
 returns : tie.Need-returns
-returns c = search needs
+unfolding value
+returns c = sym (unpad-right 4 (omega arith) _ (c .if1 .taken))
 
--- src/padding.rt:26:1
 returns-2 : tie.Need-returns-2
-returns-2 c = search needs
+unfolding value
+returns-2 c = sym (unpad-wrong 4 (omega arith) _ (c .if1 .left))
 
 pub unpad32-spec : {M : Type 1} → statement M
 unpad32-spec = tie.close (tie.spec returns returns-2)
