@@ -2,16 +2,31 @@
 -- Assumes nothing.
 use mathlib.Core.Path.{_≡_, refl, sym, ap, ap₂, _∙_}
 use mathlib.Core.List.{List, [], _∷_, _++_}
-use Prim.Native.Nat.{ℕ, zero, suc, _+_, _*_, _/_, _%_, _^_, _<_, suc-le-suc}
+use Prim.Native.Nat.{ℕ, zero, suc, _+_, _*_, _/_, _%_, _^_, _<_}
 use native.Mathlib.Nat.{add-suc, suc-add, zero-add, add-zero, mul-assoc, add-mul, pow-zero, pow-suc, pow-succ', mul-left-comm, mod-one, mod-lt, mod-eq-of-lt, one-le-pow, mul-add-div, mul-add-mod-self-right, div-add-mod'}
 use native.Mathlib.Omega.{arith}
 use lib.Arith.{digits-div, digits-lt, mod-mul}
-use lib.ListN.{length, getD, take, drop, length-append, List·getD-eq-default}
+use lib.ListN.{length, take, drop, replicate, length-append, List·getD-eq-default}
+use lib.Seq.{getD-drop}
 use lib.Pow.{pow-add}
 use Rattle.text.specs.Numbers.{digits, value, Below}
 
 pub base-positive : {b : ℕ} (ds : List ℕ) → Below b ds → 0 < b
 base-positive ds below = omega (arith, below (length ds), List·getD-eq-default ds 0 {n = length ds} (omega arith))
+
+pub take-below : {b : ℕ} (n : ℕ) (s : List ℕ) → Below b s → Below b (take n s)
+take-below zero s below i = base-positive s below
+take-below (suc n) [] below i = below i
+take-below (suc n) (c ∷ s) below zero = below 0
+take-below (suc n) (c ∷ s) below (suc i) = take-below n s (λ j. below (suc j)) i
+
+pub drop-below : {b : ℕ} (n : ℕ) (s : List ℕ) → Below b s → Below b (drop n s)
+drop-below n s below i = rw getD-drop (below (n + i))
+
+pub replicate-below : (b n d : ℕ) → d < b → Below b (replicate n d)
+replicate-below b zero d h i = omega arith
+replicate-below b (suc n) d h zero = h
+replicate-below b (suc n) d h (suc i) = replicate-below b n d h i
 
 pub digits-length : (b n x : ℕ) → length (digits b n x) ≡ n
 unfolding digits

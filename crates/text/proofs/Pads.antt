@@ -1,32 +1,26 @@
 -- A number and its padded block: each gives the other back, at every width up to 8 bytes.
 -- Assumes nothing.
-use mathlib.Core.Path.{_≡_, refl, sym, ap, ap₂, _∙_, subst}
-use mathlib.Core.Bool.{Bool, true, false, cond}
-use mathlib.Core.List.{List, [], _∷_, _++_}
+use mathlib.Core.Path.{_≡_, refl, sym, ap, ap₂, _∙_}
+use mathlib.Core.Bool.{true}
+use mathlib.Core.List.{List, [], _∷_}
 use Prim.Native.Nat.{ℕ, zero, suc, _+_, _-_, _*_, _/_, _%_, _^_, _≤_, _<_}
 use native.Mathlib.Nat.{mod-lt, mod-eq-of-lt, one-le-pow, div-add-mod', div-lt-iff-lt-mul}
 use native.Mathlib.Omega.{arith}
 use borrow.Author.Tests.{eqb-true, eq-eqb, ne-eqb}
 use lib.Arith.{digits-div, digits-mod, digits-lt}
 use lib.Dec.{eqb}
-use lib.ListN.{length, getD, drop, replicate, length-replicate}
+use lib.ListN.{length, drop, replicate, length-replicate}
 use lib.Pow.{pow-add}
-use Rattle.text.specs.Numbers.{digits, value, Below, bytesOf, numberOf}
+use Rattle.text.specs.Numbers.{digits, bytesOf, numberOf}
 use Rattle.text.specs.Characters.{allOf}
 use Rattle.text.specs.Padding.{padded, padOf, isPadded, unpadOf}
-use Rattle.text.specs.declared.padding.Unpadded.{Unpadded}
 use Rattle.text.specs.declared.padding.Unpadded.the-variants.{Number, Wrong}
-use Rattle.text.proofs.Digits.{digits-length, value-digits, value-below, digits-value, value-append, digits-of-low, digits-drop}
+use Rattle.text.proofs.Digits.{replicate-below, digits-length, value-digits, value-below, digits-value, value-append, digits-of-low, digits-drop}
 use Rattle.text.proofs.Every.{all-first, all-rest, all-more, either, same-tests}
 
 -- the number of the k bytes k that are added
 abbrev pub filling : ℕ → ℕ
 filling k = numberOf (replicate k k)
-
-replicate-below : (b n d : ℕ) → d < b → Below b (replicate n d)
-replicate-below b zero d h i = omega arith
-replicate-below b (suc n) d h zero = h
-replicate-below b (suc n) d h (suc i) = replicate-below b n d h i
 
 all-replicate : (d n : ℕ) → allOf (λ (e : ℕ). eqb e d) (replicate n d) ≡ true
 unfolding allOf
@@ -86,6 +80,9 @@ module _ (n : ℕ) where
     unpad-pad x =
         rw (pad-is-padded x, pad-sum x, digits-div (x % 256 ^ n) (filling-below (8 - n) (omega arith)))
 
+    pub unpad-pad-fit : (x : ℕ) → x < 256 ^ n → unpadOf n (padOf n x) ≡ Number x
+    unpad-pad-fit x fits = unpad-pad x ∙ ap Number (mod-eq-of-lt fits)
+
     block-size : 256 ^ 8 ≡ 256 ^ n * 256 ^ (8 - n)
     block-size =
         let whole : 8 ≡ n + (8 - n) = omega arith in
@@ -125,6 +122,4 @@ module _ (n : ℕ) where
 
     pub pad-injective : (x y : ℕ) → x < 256 ^ n → y < 256 ^ n → padOf n x ≡ padOf n y → x ≡ y
     pad-injective x y x-fits y-fits same =
-        sym (mod-eq-of-lt x-fits)
-        ∙ cc (unpad-pad x, unpad-pad y, ap (unpadOf n) same)
-        ∙ mod-eq-of-lt y-fits
+        cc (unpad-pad-fit x x-fits, unpad-pad-fit y y-fits)

@@ -2,17 +2,16 @@
 -- Assumes nothing.
 use mathlib.Core.Path.{_≡_, refl, sym, ap, ap₂, _∙_}
 use mathlib.Core.List.{List, [], _∷_, _++_}
-use mathlib.Core.Logic.{⊎-elim}
 use Prim.Native.Nat.{ℕ, zero, suc, _+_, _-_, _*_, _%_, _^_, _≤_, _<_}
-use native.Mathlib.Nat.{one-le-pow, add-assoc}
+use native.Mathlib.Nat.{one-le-pow}
 use native.Mathlib.Omega.{arith}
 use borrow.Author.Tests.{le-leb, lt-leb, leb-true, leb-false}
 use lib.Dec.{leb}
 use lib.ListN.{length, getD, take, drop, length-append, length-drop}
-use lib.Seq.{take-nil, drop-cons, drop-drop, take-add, take-at, drop-at, getD-drop, length-take-le}
-use Rattle.text.specs.Numbers.{digits, value, Below, bytesOf, numberOf}
+use lib.Seq.{drop-cons, drop-drop, take-add, take-at, drop-at, length-take-le}
+use Rattle.text.specs.Numbers.{value, Below, bytesOf, numberOf}
 use Rattle.text.specs.Places.{numberAt}
-use Rattle.text.proofs.Digits.{digits-length, value-digits, value-below, digits-value, value-append, base-positive}
+use Rattle.text.proofs.Digits.{digits-length, value-digits, value-below, digits-value, value-append, take-below, drop-below}
 use Rattle.text.proofs.Every.{either, same-tests}
 
 module _ (n : ℕ) (s : List ℕ) (at : ℕ) where
@@ -27,28 +26,21 @@ module _ (n : ℕ) (s : List ℕ) (at : ℕ) where
   part-length : at + n ≤ length s → length (take n (drop at s)) ≡ n
   part-length h = length-take-le n (drop at s) (simp length-drop (omega arith))
 
-pub take-below : {b : ℕ} (n : ℕ) (s : List ℕ) → Below b s → Below b (take n s)
-take-below zero s below i = base-positive s below
-take-below (suc n) [] below i = below i
-take-below (suc n) (c ∷ s) below zero = below 0
-take-below (suc n) (c ∷ s) below (suc i) = take-below n s (λ j. below (suc j)) i
-
-pub drop-below : {b : ℕ} (n : ℕ) (s : List ℕ) → Below b s → Below b (drop n s)
-drop-below n s below i = rw getD-drop (below (n + i))
-
 module _ (n : ℕ) (s : List ℕ) (at : ℕ) (below : Below 256 s) where
+  part-below : Below 256 (take n (drop at s))
+  part-below = take-below n (drop at s) (drop-below at s below)
+
   -- the bytes of the number at a place are the bytes there
   pub bytes-at : at + n ≤ length s → bytesOf n (numberAt n s at) ≡ take n (drop at s)
   bytes-at h =
       ap (bytesOf n) (number-within n s at h)
-      ∙ rw (part-length n s at h) at (digits-value (take n (drop at s)) (take-below n (drop at s) (drop-below at s below)))
+      ∙ rw (part-length n s at h) at (digits-value (take n (drop at s)) part-below)
 
   inside : at + n ≤ length s → numberOf (take n (drop at s)) < 256 ^ n
-  inside h =
-      rw (part-length n s at h) at (value-below (take n (drop at s)) (take-below n (drop at s) (drop-below at s below)))
+  inside h = rw (part-length n s at h) at (value-below (take n (drop at s)) part-below)
 
-  pub number-below : numberAt n s at < 256 ^ n
-  number-below =
+  pub number-at-below : numberAt n s at < 256 ^ n
+  number-at-below =
       either (leb (at + n) (length s))
       (λ h. rw (number-within n s at (leb-true _ _ h)) (inside (leb-true _ _ h)))
       (λ h. rw (number-beyond n s at (leb-false _ _ h)) (one-le-pow n 256 (omega arith)))
@@ -70,6 +62,12 @@ number-join m n s at h =
     number-within (m + n) s at h
     ∙ (rw (take-add, drop-drop, value-append, part-length n s (at + m) (omega arith)))
     ∙ sym (ap₂ (λ (x y : ℕ). x * 256 ^ n + y) (number-within m s at (omega arith)) (number-within n s (at + m) (omega arith)))
+
+-- eight bytes as four pairs
+pub number-pairs : (s : List ℕ) (at : ℕ) → at + 8 ≤ length s
+    → numberAt 8 s at ≡ numberAt 2 s at * 256 ^ 6 + numberAt 2 s (at + 2) * 256 ^ 4 + numberAt 2 s (at + 4) * 256 ^ 2 + numberAt 2 s (at + 6)
+number-pairs s at h =
+    omega (arith, number-join 6 2 s at h, number-join 4 2 s at (omega arith), number-join 2 2 s at (omega arith))
 
 -- n bytes from a place lie within, tested by the room that is left there
 pub room : (n size at : ℕ) → at ≤ size → leb n (size - at) ≡ leb (at + n) size

@@ -1,9 +1,9 @@
 -- `text::characters::hex_value` meets its contract: a digit is at least 48, a letter at least 65. Assumes nothing.
 use mathlib.Core.Path.{_≡_, sym, _∙_}
-use mathlib.Core.Bool.{true, false}
+use mathlib.Core.Bool.{false}
 use native.Mathlib.Omega.{arith}
 use borrow.Author.Needs.{needs}
-use Rattle.text.specs.Characters.{between, isDigit, hexValue}
+use Rattle.text.specs.Characters.{isDigit, hexValue}
 use Rattle.text.proofs.Notations.{digit-low, between-low}
 use Rattle.text.proofs.characters.hex_value.Statement.{statement}
 use Rattle.text.proofs.characters.hex_value.Tie as tie
