@@ -46,7 +46,6 @@ value-digits b (suc n) x pos =
     ap₂ (λ (k v : ℕ). (x / b ^ n % b) * b ^ k + v) (digits-length b n x) (value-digits b n x pos)
     ∙ sym (ap (λ (m : ℕ). x % m) (pow-succ' b n) ∙ mod-mul x pos (one-le-pow n b pos))
 
--- the number fits its digits
 pub value-digits-fit : (b n x : ℕ) → 0 < b → x < b ^ n → value b (digits b n x) ≡ x
 value-digits-fit b n x pos fits = value-digits b n x pos ∙ mod-eq-of-lt fits
 

@@ -18,6 +18,15 @@ use Rattle.text.specs.declared.padding.Unpadded.the-variants.{Number, Wr
 use Rattle.text.proofs.Digits.{replicate-below, digits-length, value-digits, value-below, digits-value, value-append, digits-of-low, digits-drop}
 use Rattle.text.proofs.Every.{all-first, all-rest, all-more, either, same-tests}
 
+-- "5 bytes get three 03, 4 bytes get four 04"
+pub five-get-three : (a b c d e : ℕ) → padded (a ∷ b ∷ c ∷ d ∷ e ∷ []) ≡ a ∷ b ∷ c ∷ d ∷ e ∷ 3 ∷ 3 ∷ 3 ∷ []
+unfolding padded
+five-get-three a b c d e = refl
+
+pub four-get-four : (a b c d : ℕ) → padded (a ∷ b ∷ c ∷ d ∷ []) ≡ a ∷ b ∷ c ∷ d ∷ 4 ∷ 4 ∷ 4 ∷ 4 ∷ []
+unfolding padded
+four-get-four a b c d = refl
+
 -- the number of the k bytes k that are added
 abbrev pub filling : ℕ → ℕ
 filling k = numberOf (replicate k k)

@@ -13,6 +13,7 @@ fn lies_within(s: &[u8], at: usize, n: usize) -> bool
     at <= s.len() && n <= s.len() - at
 }
 
+// The number of one, two, four, five or eight bytes that lie within s.
 fn one_byte(s: &[u8], at: usize) -> u8
     requires { ⌜ at + 1 ≤ length (now s) ⌝ }
     ensures { λ r. ⌜ r ≡ numberAt 1 (now (s .entry)) at ⌝ }
@@ -41,7 +42,7 @@ fn five_bytes(s: &[u8], at: usize) -> u64
     one_byte(s, at) as u64 * 4294967296 + four_bytes(s, at + 1) as u64
 }
 
-// Pairs side by side, and not two halves: so the compiler makes one load of it.
+// Four pairs, and not two halves: of these the compiler makes one load.
 fn eight_bytes(s: &[u8], at: usize) -> u64
     requires { ⌜ at + 8 ≤ length (now s) ⌝ }
     ensures { λ r. ⌜ r ≡ numberAt 8 (now (s .entry)) at ⌝ }
