@@ -2,38 +2,52 @@
 -- Assumes nothing.
 use mathlib.Core.Path.{_≡_, refl, sym, ap, ap₂, _∙_}
 use mathlib.Core.List.{List, [], _∷_, _++_}
-use Prim.Native.Nat.{ℕ, zero, suc, _+_, _*_, _/_, _%_, _^_, _<_, suc-le-suc}
-use native.Mathlib.Nat.{add-suc, suc-add, add-zero, mul-assoc, add-mul, pow-zero, pow-suc, pow-succ', mul-left-comm, mod-one, mod-lt, mod-eq-of-lt, one-le-pow, mul-add-div, mul-add-mod-self-right}
+use Prim.Native.Nat.{ℕ, zero, suc, _+_, _*_, _/_, _%_, _^_, _<_}
+use native.Mathlib.Nat.{add-suc, suc-add, zero-add, add-zero, mul-assoc, add-mul, pow-zero, pow-suc, pow-succ', mul-left-comm, mod-one, mod-lt, mod-eq-of-lt, one-le-pow, mul-add-div, mul-add-mod-self-right, div-add-mod'}
 use native.Mathlib.Omega.{arith}
 use lib.Arith.{digits-div, digits-lt, mod-mul}
-use lib.ListN.{length, getD, take, drop, length-append, List·getD-eq-default}
+use lib.ListN.{length, take, drop, replicate, length-append, List·getD-eq-default}
+use lib.Seq.{getD-drop}
 use lib.Pow.{pow-add}
 use Rattle.text.specs.Numbers.{digits, value, Below}
 
 pub base-positive : {b : ℕ} (ds : List ℕ) → Below b ds → 0 < b
 base-positive ds below = omega (arith, below (length ds), List·getD-eq-default ds 0 {n = length ds} (omega arith))
 
+pub take-below : {b : ℕ} (n : ℕ) (s : List ℕ) → Below b s → Below b (take n s)
+take-below zero s below i = base-positive s below
+take-below (suc n) [] below i = below i
+take-below (suc n) (c ∷ s) below zero = below 0
+take-below (suc n) (c ∷ s) below (suc i) = take-below n s (λ j. below (suc j)) i
+
+pub drop-below : {b : ℕ} (n : ℕ) (s : List ℕ) → Below b s → Below b (drop n s)
+drop-below n s below i = rw getD-drop (below (n + i))
+
+pub replicate-below : (b n d : ℕ) → d < b → Below b (replicate n d)
+replicate-below b zero d h i = omega arith
+replicate-below b (suc n) d h zero = h
+replicate-below b (suc n) d h (suc i) = replicate-below b n d h i
+
 pub digits-length : (b n x : ℕ) → length (digits b n x) ≡ n
 unfolding digits
 digits-length b zero x = refl
 digits-length b (suc n) x = ap suc (digits-length b n x)
 
-pub digits-below : {b : ℕ} (n x : ℕ) → 0 < b → Below b (digits b n x)
+pub digits-below : (b n x : ℕ) → 0 < b → Below b (digits b n x)
 unfolding digits
-digits-below zero x pos i = pos
-digits-below {b} (suc n) x pos zero = mod-lt (x / b ^ n) pos
-digits-below (suc n) x pos (suc i) = digits-below n x pos i
+digits-below b zero x pos i = pos
+digits-below b (suc n) x pos zero = mod-lt (x / b ^ n) pos
+digits-below b (suc n) x pos (suc i) = digits-below b n x pos i
 
-pub value-digits : {b : ℕ} (n x : ℕ) → 0 < b → value b (digits b n x) ≡ x % b ^ n
+pub value-digits : (b n x : ℕ) → 0 < b → value b (digits b n x) ≡ x % b ^ n
 unfolding digits value
-value-digits {b} zero x pos = sym (ap (λ (m : ℕ). x % m) (pow-zero b) ∙ mod-one x)
-value-digits {b} (suc n) x pos =
-    ap₂ (λ (k v : ℕ). (x / b ^ n % b) * b ^ k + v) (digits-length b n x) (value-digits n x pos)
+value-digits b zero x pos = sym (ap (λ (m : ℕ). x % m) (pow-zero b) ∙ mod-one x)
+value-digits b (suc n) x pos =
+    ap₂ (λ (k v : ℕ). (x / b ^ n % b) * b ^ k + v) (digits-length b n x) (value-digits b n x pos)
     ∙ sym (ap (λ (m : ℕ). x % m) (pow-succ' b n) ∙ mod-mul x pos (one-le-pow n b pos))
 
--- the number fits its digits
-pub value-digits-fit : {b : ℕ} (n x : ℕ) → 0 < b → x < b ^ n → value b (digits b n x) ≡ x
-value-digits-fit n x pos fits = value-digits n x pos ∙ mod-eq-of-lt fits
+pub value-digits-fit : (b n x : ℕ) → 0 < b → x < b ^ n → value b (digits b n x) ≡ x
+value-digits-fit b n x pos fits = value-digits b n x pos ∙ mod-eq-of-lt fits
 
 pub value-below : {b : ℕ} (ds : List ℕ) → Below b ds → value b ds < b ^ length ds
 unfolding value
@@ -81,3 +95,14 @@ value-append b [] es = omega arith
 value-append b (d ∷ ds) es =
     ap₂ (λ (k v : ℕ). d * b ^ k + v) (length-append ds es) (value-append b ds es)
     ∙ rw (pow-add, add-mul, mul-assoc) (omega arith)
+
+pub digits-of-low : (b n x : ℕ) → 0 < b → digits b n (x % b ^ n) ≡ digits b n x
+digits-of-low b n x pos =
+    sym (high-part b n 0 (x / b ^ n) (x % b ^ n) pos)
+    ∙ ap (λ (m : ℕ). digits b n (x / b ^ n * b ^ m + x % b ^ n)) (add-zero n)
+    ∙ ap (digits b n) (div-add-mod' x (b ^ n))
+
+pub digits-drop : (b n m x : ℕ) → drop n (digits b (n + m) x) ≡ digits b m x
+unfolding digits
+digits-drop b zero m x = rw zero-add
+digits-drop b (suc n) m x = rw suc-add (digits-drop b n m x)

@@ -1,5 +1,6 @@
 // Hex characters, digits, and the alphabets.
 ghost use mathlib.Core.Path.{_≡_};
+ghost use mathlib.Core.Bool.{_||_};
 ghost use Prim.Native.Nat.{_%_};
 ghost use Rattle.text.specs.Characters.{between, isDigit, isHex, isNameCharacter, hexValue, hexCharacter, digitValue, digitCharacter};
 
@@ -17,18 +18,25 @@ pub fn is_digit(c: u8) -> bool
     within(b'0', b'9', c)
 }
 
+// 0-9, or a capital letter from A to the last one.
+fn is_digit_or_capital(last: u8, c: u8) -> bool
+    ensures { λ r. ⌜ r ≡ (isDigit c || between 65 last c) ⌝ }
+{
+    is_digit(c) || within(b'A', last, c)
+}
+
 // 0-9 A-F.
 pub fn is_hex(c: u8) -> bool
     ensures { λ r. ⌜ r ≡ isHex c ⌝ }
 {
-    is_digit(c) || within(b'A', b'F', c)
+    is_digit_or_capital(b'F', c)
 }
 
 // A-Z 0-9.
 pub fn is_name_character(c: u8) -> bool
     ensures { λ r. ⌜ r ≡ isNameCharacter c ⌝ }
 {
-    is_digit(c) || within(b'A', b'Z', c)
+    is_digit_or_capital(b'Z', c)
 }
 
 // 0 to 15; 16 for a byte that is no hex character.

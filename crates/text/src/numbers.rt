@@ -13,6 +13,7 @@ fn lies_within(s: &[u8], at: usize, n: usize) -> bool
     at <= s.len() && n <= s.len() - at
 }
 
+// The number of one, two, four, five or eight bytes that lie within s.
 fn one_byte(s: &[u8], at: usize) -> u8
     requires { ⌜ at + 1 ≤ length (now s) ⌝ }
     ensures { λ r. ⌜ r ≡ numberAt 1 (now (s .entry)) at ⌝ }
@@ -34,18 +35,44 @@ fn four_bytes(s: &[u8], at: usize) -> u32
     two_bytes(s, at) as u32 * 65536 + two_bytes(s, at + 2) as u32
 }
 
+fn five_bytes(s: &[u8], at: usize) -> u64
+    requires { ⌜ at + 5 ≤ length (now s) ⌝ }
+    ensures { λ r. ⌜ r ≡ numberAt 5 (now (s .entry)) at ⌝ }
+{
+    one_byte(s, at) as u64 * 4294967296 + four_bytes(s, at + 1) as u64
+}
+
+// Four pairs, and not two halves: of these the compiler makes one load.
+fn eight_bytes(s: &[u8], at: usize) -> u64
+    requires { ⌜ at + 8 ≤ length (now s) ⌝ }
+    ensures { λ r. ⌜ r ≡ numberAt 8 (now (s .entry)) at ⌝ }
+{
+    two_bytes(s, at) as u64 * 281474976710656
+        + two_bytes(s, at + 2) as u64 * 4294967296
+        + two_bytes(s, at + 4) as u64 * 65536
+        + two_bytes(s, at + 6) as u64
+}
+
 // The number of the two bytes from place at; 0 where they do not lie within s.
 pub fn number16(s: &[u8], at: usize) -> u16
     ensures { λ r. ⌜ r ≡ numberAt 2 (now (s .entry)) at ⌝ }
 {
-    if lies_within(s, at, 2) { two_bytes(s, at) } else { 0 }
+    if lies_within(s, at, 2) {
+        two_bytes(s, at)
+    } else {
+        0
+    }
 }
 
 // The same of four bytes.
 pub fn number32(s: &[u8], at: usize) -> u32
     ensures { λ r. ⌜ r ≡ numberAt 4 (now (s .entry)) at ⌝ }
 {
-    if lies_within(s, at, 4) { four_bytes(s, at) } else { 0 }
+    if lies_within(s, at, 4) {
+        four_bytes(s, at)
+    } else {
+        0
+    }
 }
 
 // The same of five bytes.
@@ -53,7 +80,7 @@ pub fn number40(s: &[u8], at: usize) -> u64
     ensures { λ r. ⌜ r ≡ numberAt 5 (now (s .entry)) at ⌝ }
 {
     if lies_within(s, at, 5) {
-        one_byte(s, at) as u64 * 4294967296 + four_bytes(s, at + 1) as u64
+        five_bytes(s, at)
     } else {
         0
     }
@@ -64,7 +91,7 @@ pub fn number64(s: &[u8], at: usize) -> u64
     ensures { λ r. ⌜ r ≡ numberAt 8 (now (s .entry)) at ⌝ }
 {
     if lies_within(s, at, 8) {
-        four_bytes(s, at) as u64 * 4294967296 + four_bytes(s, at + 4) as u64
+        eight_bytes(s, at)
     } else {
         0
     }

@@ -1,38 +1,40 @@
+-- `text::characters::hex_value` meets its contract: a digit is at least 48, a letter at least 65. Assumes nothing.
+use mathlib.Core.Path.{_≡_, sym, _∙_}
+use mathlib.Core.Bool.{false}
+use native.Mathlib.Omega.{arith}
 use borrow.Author.Needs.{needs}
+use Rattle.text.specs.Characters.{isDigit, hexValue}
+use Rattle.text.proofs.Notations.{digit-low, between-low}
 use Rattle.text.proofs.characters.hex_value.Statement.{statement}
 use Rattle.text.proofs.characters.hex_value.Tie as tie
-use Rattle.text.proofs.characters.hex_value.Reads as reads
-use Rattle.text.proofs.characters.hex_value.Lts as lts
-use Rattle.text.proofs.characters.is_digit.Reads as is-digit-reads
-use Rattle.text.proofs.characters.within.Reads as within-reads
 
--- src/characters.rt:38:8
 is-digit-requires : tie.Need-is-digit-requires
 is-digit-requires c κs = search needs
 
--- src/characters.rt:39:9
 sub-result : tie.Need-sub-result
-sub-result c = search needs
+sub-result c = digit-low _ (sym (c .before .is-digit .ensures) ∙ c .if1 .taken)
 
--- src/characters.rt:40:15
 within-requires : tie.Need-within-requires
 within-requires c κs = search needs
 
--- src/characters.rt:41:9
 sub-result-2 : tie.Need-sub-result-2
-sub-result-2 c = search needs
+sub-result-2 c = omega (arith, between-low 65 70 (c .before .before .before .before .args .c) (sym (c .before .within .ensures) ∙ c .if2 .taken))
 
--- src/characters.rt:35:1
 returns : tie.Need-returns
-returns c = search needs
+unfolding hexValue
+returns c = rw (sym (c .before .is-digit .ensures) ∙ c .if1 .taken)
 
--- src/characters.rt:35:1
+module _ (c : tie.Else1) where
+  no-digit : isDigit (c .before .before .args .c) ≡ false
+  no-digit = sym (c .before .is-digit .ensures) ∙ c .if1 .left
+
 returns-2 : tie.Need-returns-2
-returns-2 c = search needs
+unfolding hexValue
+returns-2 c = rw (no-digit (c .before .before), sym (c .before .within .ensures) ∙ c .if2 .taken)
 
--- src/characters.rt:35:1
 returns-3 : tie.Need-returns-3
-returns-3 c = search needs
+unfolding hexValue
+returns-3 c = rw (no-digit (c .before .before), sym (c .before .within .ensures) ∙ c .if2 .left)
 
 pub hex-value-spec : {M : Type 1} → statement M
 hex-value-spec =

@@ -1,16 +1,13 @@
-use borrow.Author.Needs.{needs}
+-- `text::characters::within` meets its contract: the second test is made where the first holds. Assumes nothing.
+use borrow.Author.Tests.{le-leb, lt-leb}
 use Rattle.text.proofs.characters.within.Statement.{statement}
 use Rattle.text.proofs.characters.within.Tie as tie
-use Rattle.text.proofs.characters.within.Reads as reads
-use Rattle.text.proofs.characters.within.Lts as lts
 
--- src/characters.rt:7:1
 returns : tie.Need-returns
-returns c = search needs
+returns c = rw (le-leb _ _ (c .if1 .taken))
 
--- src/characters.rt:7:1
 returns-2 : tie.Need-returns-2
-returns-2 c = search needs
+returns-2 c = rw (lt-leb _ _ (c .if1 .left))
 
 pub within-spec : {M : Type 1} → statement M
 within-spec = tie.close (tie.spec returns returns-2)
