@@ -1,0 +1,5 @@
+pub mod Months
+pub mod Years
+pub mod Parts
+pub mod Rising
+pub mod Left
