@@ -1,6 +1,6 @@
 -- Leap years in the code's order of tests, and that each year begins where the one before ends. Assumes nothing.
-use mathlib.Core.Path.{_≡_, refl}
-use mathlib.Core.Bool.{Bool, true, false, cond, _&&_, and-true, and-false, or-true, or-false}
+use mathlib.Core.Path.{_≡_}
+use mathlib.Core.Bool.{true, false, and-true, and-false, or-true, or-false}
 use Prim.Native.Nat.{ℕ, _+_, _-_, _*_, _/_, _%_, _<_, _≤_}
 use native.Mathlib.Decide.{ℕ-discrete}
 use native.Mathlib.Nat.{div-add-mod', mod-lt, add-mul}
@@ -45,8 +45,8 @@ module _ (y : ℕ) where
   unfolding isLeap
   leap-4 n m = rw (ne-eqb _ _ n, ne-eqb _ _ m, and-true, or-false)
 
-  -- so the difference that counts the leap years loses nothing
-  pub fewer-hundreds : multiplesBelow 100 y ≤ multiplesBelow 4 y
+  -- so the difference that counts the leap years does not stop at 0
+  fewer-hundreds : multiplesBelow 100 y ≤ multiplesBelow 4 y
   unfolding multiplesBelow
   fewer-hundreds = omega arith
 
@@ -57,6 +57,7 @@ module _ (y : ℕ) where
     where
       Step : Type 0
       Step = daysBeforeYear (y + 1) ≡ daysBeforeYear y + sum (monthLengths (isLeap y))
+
       by-4 : (y % 400 ≡ 0 → ⊥) → (y % 100 ≡ 0 → ⊥) → Dec (y % 4 ≡ 0) → Step
       by-4 n m (yes h) =
           rw (leap-4 n m, eq-eqb _ _ h)
@@ -64,11 +65,13 @@ module _ (y : ℕ) where
       by-4 n m (no l) =
           rw (leap-4 n m, ne-eqb _ _ l)
           (omega (arith, fewer-hundreds, no-more 4 y (lit< tt) l, no-more 100 y (lit< tt) m, no-more 400 y (lit< tt) n))
+
       by-100 : (y % 400 ≡ 0 → ⊥) → Dec (y % 100 ≡ 0) → Step
       by-100 n (yes h) =
           rw (leap-100 n h)
           (omega (arith, fewer-hundreds, one-more 4 y (lit< tt) (omega arith), one-more 100 y (lit< tt) h, no-more 400 y (lit< tt) n))
       by-100 n (no m) = by-4 n m (ℕ-discrete (y % 4) 0)
+
       by-400 : Dec (y % 400 ≡ 0) → Step
       by-400 (yes h) =
           rw (leap-400 h)

@@ -2,7 +2,7 @@
 use Prim.Native.Nat.{ℕ, _+_, _-_, _*_, _/_, _%_}
 use mathlib.Core.Bool.{Bool, cond, not, _&&_, _||_}
 use mathlib.Core.List.{List, [], _∷_}
-use lib.Dec.{leb, eqb}
+use lib.Dec.{leb, ltb, eqb}
 use lib.ListN.{getD, take}
 
 -- the year, the month and the day of YYYYMMDD
@@ -43,6 +43,7 @@ multiplesBelow k y = (y + (k - 1)) / k
 unfoldable pub daysBeforeYear : ℕ → ℕ
 daysBeforeYear y = 365 * y + (multiplesBelow 4 y + multiplesBelow 400 y - multiplesBelow 100 y)
 
+-- the numbers of a list, added
 unfoldable pub sum : List ℕ → ℕ
 sum [] = 0
 sum (x ∷ xs) = x + sum xs
@@ -54,3 +55,13 @@ daysBeforeMonth y m = sum (take (m - 1) (monthLengths (isLeap y)))
 -- the days from the first day of year 0, which is day 1, to a date; 0 for a number that is no date
 unfoldable pub dayNumber : ℕ → ℕ
 dayNumber n = cond (isDate n) (daysBeforeYear (year n) + daysBeforeMonth (year n) (month n) + day n) 0
+
+-- YYYYMMDD of a year, a month and a day
+unfoldable pub dateOf : ℕ → ℕ → ℕ → ℕ
+dateOf y m d = y * 10000 + m * 100 + d
+
+-- the date after a date: the next day of the month, or the first of the next month, or of the next year
+unfoldable pub nextDate : ℕ → ℕ
+nextDate n =
+    cond (ltb (day n) (daysIn (year n) (month n))) (dateOf (year n) (month n) (day n + 1))
+    (cond (ltb (month n) 12) (dateOf (year n) (month n + 1) 1) (dateOf (year n + 1) 1 1))

@@ -1,5 +1,5 @@
 -- The days left until an expiry, and the notice that they give. Dates are numbers YYYYMMDD.
-use Prim.Native.Nat.{ℕ, _-_}
+use Prim.Native.Nat.{ℕ, suc}
 use mathlib.Core.Bool.{cond}
 use lib.Dec.{ltb}
 use lib.IntN.{ℤ, pos, negsuc, negℤ, _-ℤ_}
@@ -13,14 +13,16 @@ use Rattle.dates.specs.declared.Notice.the-variants.{Current, Soon, Expi
 unfoldable pub daysLeft : ℕ → ℕ → ℤ
 daysLeft today expiry = pos (dayNumber expiry) -ℤ pos (dayNumber today)
 
--- the same in the code's form: how many days ago the date passed, or how many are left
-unfoldable pub leftOf : ℕ → ℕ → DaysLeft
-leftOf today expiry =
-    cond (ltb (dayNumber expiry) (dayNumber today))
-    (Passed (dayNumber today - dayNumber expiry))
-    (Left (dayNumber expiry - dayNumber today))
+-- a number of days in the code's form: how many days ago, at least one, or how many are left
+unfoldable pub formOf : ℤ → DaysLeft
+formOf (negsuc n) = Passed (suc n)
+formOf (pos n) = Left n
 
--- what a value of the code's form means
+-- the days left in that form
+unfoldable pub leftOf : ℕ → ℕ → DaysLeft
+leftOf today expiry = formOf (daysLeft today expiry)
+
+-- what a value of that form means
 abbrev pub daysOf : DaysLeft → ℤ
 daysOf (Passed n) = negℤ (pos n)
 daysOf (Left n) = pos n

@@ -1,16 +1,17 @@
-// Dates: what is a date, its day number, the days left until it, and the notice that they give.
+// Dates, each a number YYYYMMDD: which numbers are dates, day numbers, the days left, and the notice that they give.
 ghost use mathlib.Core.Path.{_≡_};
 ghost use Prim.Native.Nat.{_≤_};
 ghost use Rattle.dates.specs.Calendar.{isLeap, daysIn, within, isDate, daysBeforeMonth, dayNumber};
 ghost use Rattle.dates.specs.Notice.{daysLeft, leftOf, noticeOf, numberOf};
 
+// What an expiry says today.
 pub enum Notice {
     Current,
     Soon,
     Expired,
 }
 
-// The date passed so many days ago, at least one; or so many days are left.
+// How many days ago a date passed, at least one; or how many are left.
 pub enum DaysLeft {
     Passed(u32),
     Left(u32),
@@ -33,13 +34,7 @@ fn days_in(year: u32, month: u32) -> u32
     ensures { λ r. ⌜ r ≡ daysIn year month ⌝ }
 {
     match month {
-        2 => {
-            if is_leap(year) {
-                29
-            } else {
-                28
-            }
-        }
+        2 => { if is_leap(year) { 29 } else { 28 } }
         4 | 6 | 9 | 11 => 30,
         _ => 31,
     }
@@ -54,6 +49,7 @@ fn within(low: u32, high: u32, n: u32) -> bool
     n <= high
 }
 
+// Whether a number is a date of the years 1900 to 2999.
 pub fn is_date(date: u32) -> bool
     ensures { λ r. ⌜ r ≡ isDate date ⌝ }
 {
@@ -68,7 +64,7 @@ pub fn is_date(date: u32) -> bool
     within(1, days_in(year, month), date % 100)
 }
 
-// From March on the months start a day or two earlier than if February had 30 days.
+// From March on a month starts a day or two earlier than if February had 30 days.
 fn days_before_month(year: u32, month: u32) -> u32
     requires { ⌜ (1 ≤ month) × (month ≤ 12) ⌝ }
     ensures { λ r. ⌜ r ≡ daysBeforeMonth year month ⌝ }
@@ -77,13 +73,10 @@ fn days_before_month(year: u32, month: u32) -> u32
     if month <= 2 {
         return days;
     }
-    if is_leap(year) {
-        days - 1
-    } else {
-        days - 2
-    }
+    if is_leap(year) { days - 1 } else { days - 2 }
 }
 
+// Dates in their order have day numbers in theirs, with no gap; a number that is no date has 0.
 pub fn day_number(date: u32) -> u32
     ensures { λ r. ⌜ r ≡ dayNumber date ⌝ }
 {
@@ -108,6 +101,7 @@ pub fn days_left(today: u32, expiry: u32) -> DaysLeft
     }
 }
 
+// Expired once the date has passed, soon while less than the warning days are left.
 pub fn notice_of(today: u32, expiry: u32, days: u32) -> Notice
     ensures { λ r. ⌜ r ≡ noticeOf (daysLeft today expiry) days ⌝ }
 {
@@ -123,6 +117,7 @@ pub fn notice_of(today: u32, expiry: u32, days: u32) -> Notice
     }
 }
 
+// The number that comes back for a notice.
 pub fn notice_number(notice: Notice) -> u32
     ensures { λ r. ⌜ r ≡ numberOf notice ⌝ }
 {

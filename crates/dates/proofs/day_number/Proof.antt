@@ -5,9 +5,9 @@ use Prim.Native.Nat.{_≤_}
 use native.Mathlib.Omega.{arith}
 use borrow.Author.Needs.{needs}
 use borrow.Author.Tests.{not-true, not-false}
-use Rattle.dates.specs.Calendar.{year, month, day, isDate, multiplesBelow, daysBeforeYear, dayNumber}
+use Rattle.dates.specs.Calendar.{year, month, day, isDate, multiplesBelow, daysBeforeYear}
 use Rattle.dates.proofs.Months.{month-start-small}
-use Rattle.dates.proofs.Parts.{Parts, date-parts, number-of-date, number-of-none}
+use Rattle.dates.proofs.Parts.{date-parts, number-of-date, number-of-none}
 use Rattle.dates.proofs.day_number.Statement.{statement}
 use Rattle.dates.proofs.day_number.Tie as tie
 

@@ -29,19 +29,21 @@ sub-result-2 c = search needs
 
 returns-2 : tie.Need-returns-2
 returns-2 c =
-    rw
-    (← (month-start (c .before .before .before .args .year) _ (c .before .before .before .pre .0) (c .before .before .before .pre .1)),
-    lt-leb _ _ (c .before .before .if1 .left),
-    ← (c .before .is-leap .ensures),
-    c .if2 .taken)
+    rw (
+      ← (month-start (c .before .before .before .args .year) _ (c .before .before .before .pre .0) (c .before .before .before .pre .1)),
+      lt-leb _ _ (c .before .before .if1 .left),
+      ← (c .before .is-leap .ensures),
+      c .if2 .taken,
+    )
 
 returns-3 : tie.Need-returns-3
 returns-3 c =
-    rw
-    (← (month-start (c .before .before .before .args .year) _ (c .before .before .before .pre .0) (c .before .before .before .pre .1)),
-    lt-leb _ _ (c .before .before .if1 .left),
-    ← (c .before .is-leap .ensures),
-    c .if2 .left)
+    rw (
+      ← (month-start (c .before .before .before .args .year) _ (c .before .before .before .pre .0) (c .before .before .before .pre .1)),
+      lt-leb _ _ (c .before .before .if1 .left),
+      ← (c .before .is-leap .ensures),
+      c .if2 .left,
+    )
 
 pub days-before-month-spec : {M : Type 1} → statement M
 days-before-month-spec =

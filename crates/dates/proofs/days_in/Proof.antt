@@ -1,7 +1,5 @@
 -- `dates::days_in` meets its contract: its arms are the twelve lengths. Assumes nothing.
-use mathlib.Core.Path.{sym, ap, _∙_}
-use mathlib.Core.Bool.{Bool, cond}
-use Prim.Native.Nat.{ℕ}
+use mathlib.Core.Path.{sym, _∙_}
 use borrow.Author.Needs.{needs}
 use Rattle.dates.proofs.Months.{february, thirty, thirty-one}
 use Rattle.dates.proofs.days_in.Statement.{statement}

@@ -3,7 +3,7 @@ use mathlib.Core.Path.{sym, _∙_}
 use borrow.Author.Needs.{needs}
 use borrow.Author.Tests.{not-true, not-false}
 use Rattle.dates.specs.Calendar.{year, month, day, isDate}
-use Rattle.dates.proofs.Parts.{within-bounds}
+use Rattle.dates.proofs.Bounds.{bounds}
 use Rattle.dates.proofs.is_date.Statement.{statement}
 use Rattle.dates.proofs.is_date.Tie as tie
 
@@ -20,12 +20,13 @@ within-requires-2 c κs = search needs
 returns-2 : tie.Need-returns-2
 unfolding year month day isDate
 returns-2 c =
-    rw
-    (sym (c .before .before .before .within .ensures) ∙ not-false _ (c .before .before .if1 .left),
-    sym (c .before .within2 .ensures) ∙ not-true _ (c .if2 .taken))
+    rw (
+      sym (c .before .before .before .within .ensures) ∙ not-false _ (c .before .before .if1 .left),
+      sym (c .before .within2 .ensures) ∙ not-true _ (c .if2 .taken),
+    )
 
 days-in-requires : tie.Need-days-in-requires
-days-in-requires c κs = within-bounds _ _ _ (sym (c .before .within2 .ensures) ∙ not-false _ (c .if2 .left))
+days-in-requires c κs = bounds _ _ _ (sym (c .before .within2 .ensures) ∙ not-false _ (c .if2 .left))
 
 within-requires-3 : tie.Need-within-requires-3
 within-requires-3 c κs = search needs
@@ -33,10 +34,11 @@ within-requires-3 c κs = search needs
 returns-3 : tie.Need-returns-3
 unfolding year month day isDate
 returns-3 c =
-    rw
-    (sym (c .before .before .before .before .before .within .ensures) ∙ not-false _ (c .before .before .before .before .if1 .left),
-    sym (c .before .before .before .within2 .ensures) ∙ not-false _ (c .before .before .if2 .left),
-    ← (c .before .days-in .ensures))
+    rw (
+      sym (c .before .before .before .before .before .within .ensures) ∙ not-false _ (c .before .before .before .before .if1 .left),
+      sym (c .before .before .before .within2 .ensures) ∙ not-false _ (c .before .before .if2 .left),
+      ← (c .before .days-in .ensures),
+    )
     (c .within3 .ensures)
 
 pub is-date-spec : {M : Type 1} → statement M

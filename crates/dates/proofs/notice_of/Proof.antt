@@ -22,16 +22,18 @@ returns c = sym (passed-expired _ _ _ _ (sym (c .before .before .days-left .ensu
 returns-2 : tie.Need-returns-2
 unfolding noticeOf
 returns-2 c =
-    rw
-    (left-days _ _ _ (sym (c .before .before .before .before .days-left .ensures) ∙ c .before .before .n .given .1),
-    lt-ltb _ _ (c .if1 .taken))
+    rw (
+      left-days _ _ _ (sym (c .before .before .before .before .days-left .ensures) ∙ c .before .before .n .given .1),
+      lt-ltb _ _ (c .if1 .taken),
+    )
 
 returns-3 : tie.Need-returns-3
 unfolding noticeOf
 returns-3 c =
-    rw
-    (left-days _ _ _ (sym (c .before .before .before .before .days-left .ensures) ∙ c .before .before .n .given .1),
-    le-ltb _ _ (c .if1 .left))
+    rw (
+      left-days _ _ _ (sym (c .before .before .before .before .days-left .ensures) ∙ c .before .before .n .given .1),
+      le-ltb _ _ (c .if1 .left),
+    )
 
 pub notice-of-spec : {M : Type 1} → statement M
 notice-of-spec =

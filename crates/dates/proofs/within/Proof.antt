@@ -1,5 +1,4 @@
 -- `dates::within` meets its contract. Assumes nothing.
-use mathlib.Core.Path.{sym}
 use borrow.Author.Tests.{le-leb, lt-leb}
 use Rattle.dates.specs.Calendar.{within}
 use Rattle.dates.proofs.within.Statement.{statement}
