@@ -1,31 +1,19 @@
--- The table of known values, P1 to P8, as one list, and what each row says of the definitions. Warning days are 30.
+-- The table of known values as one list, and what each of its rows says of the definitions. Warning days are 30.
 use Prim.Native.Nat.{ℕ}
 use mathlib.Core.Path.{_≡_}
 use mathlib.Core.Bool.{true, false}
 use mathlib.Core.List.{List, [], _∷_}
-use lib.IntN.{ℤ, pos, negsuc, negℤ}
+use lib.IntN.{ℤ, pos, negℤ}
 use Rattle.dates.specs.Calendar.{isDate}
 use Rattle.dates.specs.Notice.{daysLeft, noticeOf, numberOf}
 
--- a row, by what its columns hold
+-- the kinds of rows, with what is given and then the result
 pub data Row : Type 0 where
-  leftAndNumber : ℕ → ℕ → ℤ → ℕ → Row
-  sameDay : ℤ → ℕ → Row
-  left : ℕ → ℕ → ℤ → Row
-  noDate : ℕ → Row
-  aDate : ℕ → Row
-
--- the number that comes back for a date, at 30 warning days
-abbrev pub numberAt30 : ℕ → ℕ → ℕ
-numberAt30 today expiry = numberOf (noticeOf (daysLeft today expiry) 30)
-
--- what a row says
-abbrev pub Holds : Row → Type 0
-Holds (leftAndNumber today expiry days number) = (daysLeft today expiry ≡ days) × (numberAt30 today expiry ≡ number)
-Holds (sameDay days number) = (today : ℕ) → (daysLeft today today ≡ days) × (numberAt30 today today ≡ number)
-Holds (left today expiry days) = daysLeft today expiry ≡ days
-Holds (noDate n) = isDate n ≡ false
-Holds (aDate n) = isDate n ≡ true
+  leftAndNumber : (today expiry : ℕ) (left : ℤ) (number : ℕ) → Row
+  sameDay : (left : ℤ) (number : ℕ) → Row
+  noDate : (given : ℕ) → Row
+  aDate : (given : ℕ) → Row
+  leftAlone : (today expiry : ℕ) (left : ℤ) → Row
 
 abbrev pub rows : List Row
 rows =
@@ -44,10 +32,22 @@ rows =
     -- P7
     ∷ aDate 20000229
     -- P8
-    ∷ left 19000101 29991231 (pos 401766)
+    ∷ leftAlone 19000101 29991231 (pos 401766)
     ∷ []
+
+-- the number that comes back for an expiry, at 30 warning days
+abbrev pub numberAt30 : ℕ → ℕ → ℕ
+numberAt30 today expiry = numberOf (noticeOf (daysLeft today expiry) 30)
+
+-- what a row says; that of the same day is for every day
+abbrev pub Holds : Row → Type 0
+Holds (leftAndNumber today expiry left number) = (daysLeft today expiry ≡ left) × (numberAt30 today expiry ≡ number)
+Holds (sameDay left number) = (today : ℕ) → (daysLeft today today ≡ left) × (numberAt30 today today ≡ number)
+Holds (noDate given) = isDate given ≡ false
+Holds (aDate given) = isDate given ≡ true
+Holds (leftAlone today expiry left) = daysLeft today expiry ≡ left
 
 -- each row of a list holds
 abbrev pub EachHolds : List Row → Type 0
 EachHolds [] = Unit {0}
-EachHolds (r ∷ rs) = Holds r × EachHolds rs
+EachHolds (row ∷ rest) = Holds row × EachHolds rest

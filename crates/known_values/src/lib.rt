@@ -1,1 +1,1 @@
-// No code: specs/Rows.antt has the table of known values, and proofs/Known.antt shows that every row holds.
+// No code: specs/Rows.antt has the table of known values, proofs/Known.antt that every row holds.
