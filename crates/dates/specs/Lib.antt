@@ -1,0 +1,2 @@
+pub mod Calendar
+pub mod Notice

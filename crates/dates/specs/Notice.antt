@@ -1,0 +1,39 @@
+-- The days left until an expiry, and the notice that they give. Dates are numbers YYYYMMDD.
+use Prim.Native.Nat.{ℕ, suc}
+use mathlib.Core.Bool.{cond}
+use lib.Dec.{ltb}
+use lib.IntN.{ℤ, pos, negsuc, negℤ, _-ℤ_}
+use Rattle.dates.specs.Calendar.{dayNumber}
+use Rattle.dates.specs.declared.DaysLeft.{DaysLeft}
+use Rattle.dates.specs.declared.DaysLeft.the-variants.{Passed, Left}
+use Rattle.dates.specs.declared.Notice.{Notice}
+use Rattle.dates.specs.declared.Notice.the-variants.{Current, Soon, Expired}
+
+-- the day number of the expiry less that of today: below zero when the date has passed
+unfoldable pub daysLeft : ℕ → ℕ → ℤ
+daysLeft today expiry = pos (dayNumber expiry) -ℤ pos (dayNumber today)
+
+-- a number of days in the code's form: how many days ago, at least one, or how many are left
+unfoldable pub formOf : ℤ → DaysLeft
+formOf (negsuc n) = Passed (suc n)
+formOf (pos n) = Left n
+
+-- the days left in that form
+unfoldable pub leftOf : ℕ → ℕ → DaysLeft
+leftOf today expiry = formOf (daysLeft today expiry)
+
+-- what a value of that form means
+abbrev pub daysOf : DaysLeft → ℤ
+daysOf (Passed n) = negℤ (pos n)
+daysOf (Left n) = pos n
+
+-- days left below zero: expired; from zero to less than the warning days: soon; otherwise current
+unfoldable pub noticeOf : ℤ → ℕ → Notice
+noticeOf (negsuc n) days = Expired
+noticeOf (pos n) days = cond (ltb n days) Soon Current
+
+-- the notice's number
+abbrev pub numberOf : Notice → ℕ
+numberOf Current = 0
+numberOf Soon = 20
+numberOf Expired = 15

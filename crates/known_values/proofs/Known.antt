@@ -1,0 +1,29 @@
+-- Every row of the table of known values holds of the definitions. Assumes nothing.
+use mathlib.Core.Path.{refl}
+use lib.IntN.{pos}
+use Rattle.dates.specs.Calendar.{year, month, day, isLeap, monthLengths, daysIn, within, isDate, multiplesBelow, daysBeforeYear, sum, daysBeforeMonth, dayNumber}
+use Rattle.dates.specs.Notice.{daysLeft, noticeOf}
+use Rattle.dates.proofs.Left.{same-day}
+use Rattle.known_values.specs.Rows.{Holds, EachHolds, rows, sameDay}
+
+same-day-holds : Holds (sameDay (pos 0) 20)
+unfolding noticeOf
+same-day-holds d = (same-day d, rw (same-day d))
+
+infixr 5 _and_
+_and_ : {A B : Type 0} → A → B → A × B
+a and b = (a, b)
+
+-- P1 to P8, in the table's order: antt computes all but P5
+pub known : EachHolds rows
+unfolding year month day isLeap monthLengths daysIn within isDate multiplesBelow daysBeforeYear sum daysBeforeMonth dayNumber daysLeft noticeOf
+known =
+    (refl, refl)
+    and (refl, refl)
+    and (refl, refl)
+    and (refl, refl)
+    and same-day-holds
+    and refl
+    and refl
+    and refl
+    and tt
