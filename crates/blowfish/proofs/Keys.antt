@@ -1,9 +1,10 @@
 -- What has 4 to 56 bytes is a key, and nothing else is.
 -- Assumes nothing.
-use mathlib.Core.Path.{_≡_, ap, ap₂, _∙_}
-use mathlib.Core.Bool.{Bool, true, false, _&&_, and-false}
+use mathlib.Core.Path.{_≡_, refl, ap, ap₂, _∙_}
+use mathlib.Core.Bool.{Bool, true, false, cond, _&&_, and-false}
 use mathlib.Core.List.{List}
 use Prim.Native.Nat.{ℕ, _<_, _≤_}
+use native.Mathlib.Omega.{arith}
 use borrow.Author.Tests.{le-leb, lt-leb}
 use lib.Dec.{leb}
 use lib.ListN.{length}
@@ -42,3 +43,20 @@ module _ (key before : List ℕ) where
   unfolding schedule
   steps w₁ w₂ w₃ e₁ e₂ e₃ =
       e₃ ∙ ap (λ (w : List ℕ). filled 521 (record { words = w; block = 0 }) .words) (e₂ ∙ ap (keyed key 18) e₁)
+
+-- the number tells whether it was a key
+by-number : (b : Bool) → _≡_ {A = ℕ} (cond b 0 103) 0 → b ≡ true
+by-number true e = refl
+by-number false e = absurd (omega arith)
+
+by-other : (b : Bool) → (_≡_ {A = ℕ} (cond b 0 103) 0 → ⊥) → b ≡ false
+by-other true h = absurd (h refl)
+by-other false h = refl
+
+pub done-is-key : (key : List ℕ) → keyNumber key ≡ 0 → isKey key ≡ true
+unfolding keyNumber
+done-is-key key e = by-number (isKey key) e
+
+pub refused-is-none : (key : List ℕ) → (keyNumber key ≡ 0 → ⊥) → isKey key ≡ false
+unfolding keyNumber
+refused-is-none key h = by-other (isKey key) h

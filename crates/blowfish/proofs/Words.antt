@@ -110,7 +110,7 @@ filled-words (suc n) s h fits =
 
 start-words : Below (2 ^ 32) startWords
 unfolding startWords
-start-words = digits-below 1042 piFraction (lit< tt)
+start-words = digits-below (2 ^ 32) 1042 piFraction (lit< tt)
 
 pub keys-have-words : KeysHaveWords
 unfolding schedule
