@@ -1,0 +1,17 @@
+-- The numbers that stand for answers which C cannot take.
+use Rattle.dates.specs.declared.DaysLeft.{DaysLeft}
+use Rattle.dates.specs.declared.DaysLeft.the-variants.{Passed, Left}
+use Rattle.text.specs.declared.padding.Unpadded.{Unpadded}
+use Rattle.text.specs.declared.padding.Unpadded.the-variants.{Number, Wrong}
+use Rattle.probe.specs.declared.ProbeDaysLeft.{ProbeDaysLeft}
+use Rattle.probe.specs.declared.ProbeUnpadded.{ProbeUnpadded}
+
+-- 1 and how many days ago, or 0 and how many are left
+abbrev pub daysForm : DaysLeft → ProbeDaysLeft
+daysForm (Passed n) = record { passed = 1; days = n }
+daysForm (Left n) = record { passed = 0; days = n }
+
+-- the number and 1, or twice 0 where the padding is wrong
+abbrev pub unpaddedForm : Unpadded → ProbeUnpadded
+unpaddedForm (Number x) = record { value = x; right = 1 }
+unpaddedForm Wrong = record { value = 0; right = 0 }
