@@ -87,75 +87,81 @@ static void random_keys(void)
     }
 }
 
-/* A key of a wrong length: the number, no block, no word of a schedule. */
-static void compare_refusal(const uint8_t *key, size_t length)
+/* A key of a wrong length gives the number and no block. */
+static void compare_refused(lambukir_block answer, size_t length)
+{
+    same(answer.number, REFUSED, "number, key of %zu bytes", length);
+    same(answer.block, 0, "block, key of %zu bytes", length);
+}
+
+/* And no word of a schedule. */
+static void compare_refused_schedule(const uint8_t *key, size_t length)
 {
     static uint32_t before[SCHEDULE_WORDS];
     random_bytes((uint8_t *)before, sizeof before);
-    lambukir_block to = lambukir_encipher_block(key, length, random64());
-    lambukir_block from = lambukir_decipher_block(key, length, random64());
     lent words = lend(before, sizeof before, 0);
     same(probe_key_schedule(key, length, (uint32_t *)words.bytes), REFUSED, "number of the schedule, key of %zu bytes", length);
     same(all_kept(&words), 1, "the lent words and their guard bytes, key of %zu bytes", length);
-    same(to.number, REFUSED, "number of encipher, key of %zu bytes", length);
-    same(from.number, REFUSED, "number of decipher, key of %zu bytes", length);
-    same(to.block, 0, "block of encipher, key of %zu bytes", length);
-    same(from.block, 0, "block of decipher, key of %zu bytes", length);
     give_back(&words);
 }
 
-static void compare_lent_refusal(size_t length)
+static void compare_refusal(size_t length)
 {
-    uint8_t *key = malloc(length + 1);
-    same(key != NULL, 1, "memory for a key of %zu bytes", length);
-    if (!key)
-        return;
+    static uint8_t key[1048577];
     random_bytes(key, length);
+    compare_refused(ours(lambukir_encipher_block, key, length, random64()), length);
+    compare_refused(ours(lambukir_decipher_block, key, length, random64()), length);
     lent l = lend(key, length, random_below(16));
-    compare_refusal(l.bytes, length);
+    compare_refused_schedule(l.bytes, length);
     same(all_kept(&l), 1, "the lent key of %zu bytes and its guard bytes", length);
     give_back(&l);
-    free(key);
 }
 
-/* Longer than 32 bits can count, by a length that they would take for a good one. Only the map is there, no memory. */
+/* Longer than 32 bits can count, by a length that they would take for a good one. Its pages cannot be written. */
 static void compare_huge_refusal(size_t length)
 {
-    void *map = mmap(NULL, length, PROT_READ, MAP_PRIVATE | MAP_ANONYMOUS | MAP_NORESERVE, -1, 0);
-    same(map != MAP_FAILED, 1, "a map of %zu bytes", length);
-    if (map == MAP_FAILED)
+    void *key = mmap(NULL, length, PROT_READ, MAP_PRIVATE | MAP_ANONYMOUS | MAP_NORESERVE, -1, 0);
+    same(key != MAP_FAILED, 1, "a map of %zu bytes", length);
+    if (key == MAP_FAILED)
         return;
-    compare_refusal(map, length);
-    munmap(map, length);
+    compare_refused(lambukir_encipher_block(key, length, random64()), length);
+    compare_refused(lambukir_decipher_block(key, length, random64()), length);
+    compare_refused_schedule(key, length);
+    munmap(key, length);
 }
 
 static void refusals(void)
 {
     static const size_t longer[] = {1000, 4096, 65536 + SHORTEST, 1048577};
     for (size_t length = 0; length < SHORTEST; length++)
-        compare_lent_refusal(length);
+        compare_refusal(length);
     for (size_t length = LONGEST + 1; length <= 600; length++)
-        compare_lent_refusal(length);
+        compare_refusal(length);
     for (size_t i = 0; i < sizeof longer / sizeof *longer; i++)
-        compare_lent_refusal(longer[i]);
-    compare_huge_refusal(((size_t)1 << 32) + 16);
-    compare_huge_refusal(((size_t)1 << 40) + LONGEST);
+        compare_refusal(longer[i]);
+    compare_huge_refusal(((size_t)1 << 32) + SHORTEST);
+    compare_huge_refusal(((size_t)1 << 32) + LONGEST);
 }
 
-/* The leaf functions on any words. OpenSSL's words are its P and then its S, as ours. */
-static void compare_words(const uint32_t words[SCHEDULE_WORDS], const BF_KEY *schedule, uint64_t block, const char *which)
+static uint64_t with_words(uint64_t (*call)(const uint32_t *, uint64_t), const uint32_t words[SCHEDULE_WORDS], uint64_t block)
 {
     lent l = lend(words, sizeof(uint32_t[SCHEDULE_WORDS]), 0);
-    const uint32_t *w = (const uint32_t *)l.bytes;
-    uint64_t to = probe_encipher(w, block), from = probe_decipher(w, block);
+    uint64_t answer = call((const uint32_t *)l.bytes, block);
+    same(all_kept(&l), 1, "the lent words and their guard bytes");
+    give_back(&l);
+    return answer;
+}
+
+/* The leaf functions on any words, which OpenSSL's schedule has too. */
+static void compare_words(const uint32_t words[SCHEDULE_WORDS], const BF_KEY *schedule, uint64_t block)
+{
+    uint64_t to = with_words(probe_encipher, words, block), from = with_words(probe_decipher, words, block);
     BF_LONG up[2] = {(BF_LONG)(block >> 32), (BF_LONG)block}, down[2] = {up[0], up[1]};
     BF_encrypt(up, schedule);
     BF_decrypt(down, schedule);
-    same(to, (uint64_t)up[0] << 32 | up[1], "encipher %016" PRIX64 " with %s", block, which);
-    same(from, (uint64_t)down[0] << 32 | down[1], "decipher %016" PRIX64 " with %s", block, which);
-    same(probe_decipher(w, to), block, "encipher and decipher %016" PRIX64 " with %s", block, which);
-    same(all_kept(&l), 1, "the lent words and their guard bytes, with %s", which);
-    give_back(&l);
+    same(to, (uint64_t)up[0] << 32 | up[1], "encipher %016" PRIX64 " with words", block);
+    same(from, (uint64_t)down[0] << 32 | down[1], "decipher %016" PRIX64 " with words", block);
+    same(with_words(probe_decipher, words, to), block, "encipher and decipher %016" PRIX64 " with words", block);
 }
 
 static void compare_schedule(const uint8_t *key, size_t length)
@@ -170,7 +176,7 @@ static void compare_schedule(const uint8_t *key, size_t length)
     const uint32_t *w = (const uint32_t *)words.bytes;
     for (size_t i = 0; i < SCHEDULE_WORDS; i++)
         same(w[i], i < 18 ? schedule.P[i] : schedule.S[i - 18], "word %zu of the schedule, key of %zu bytes", i, length);
-    compare_words(w, &schedule, random64(), "a key's words");
+    compare_words(w, &schedule, random64());
     give_back(&l);
     give_back(&words);
 }
@@ -193,7 +199,7 @@ static void tables(void)
         random_bytes((uint8_t *)words, sizeof words);
         memcpy(schedule.P, words, sizeof schedule.P);
         memcpy(schedule.S, words + 18, sizeof schedule.S);
-        compare_words(words, &schedule, make_block(i % 4), "random words");
+        compare_words(words, &schedule, make_block(i % 4));
     }
 }
 
