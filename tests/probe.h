@@ -3,6 +3,7 @@
 #ifndef PROBE_H
 #define PROBE_H
 
+#include <stdbool.h>
 #include <stddef.h>
 #include <stdint.h>
 
@@ -16,15 +17,15 @@ uint64_t probe_decipher(const uint32_t words[SCHEDULE_WORDS], uint64_t block);
 typedef struct {
     uint32_t passed, days; /* passed 1: the date passed so many days ago; 0: so many are left */
 } probe_days_left_t;
-uint32_t probe_is_date(uint32_t date);
+bool probe_is_date(uint32_t date);
 uint32_t probe_day_number(uint32_t date); /* 0 for a number that is no date */
 probe_days_left_t probe_days_left(uint32_t today, uint32_t expiry);
 uint32_t probe_notice(uint32_t today, uint32_t expiry, uint32_t days); /* 0 current, 15 expired, 20 soon */
 
 /* Characters. */
-uint32_t probe_is_digit(uint8_t c);
-uint32_t probe_is_hex(uint8_t c);
-uint32_t probe_is_name_character(uint8_t c);
+bool probe_is_digit(uint8_t c);
+bool probe_is_hex(uint8_t c);
+bool probe_is_name_character(uint8_t c);
 uint32_t probe_digit_value(uint8_t c); /* 10 for no digit */
 uint32_t probe_digit_character(uint8_t v); /* of v % 10 */
 uint32_t probe_hex_value(uint8_t c); /* 16 for no hex character */

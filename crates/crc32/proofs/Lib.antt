@@ -1,2 +1,4 @@
 pub mod Shifts
+pub mod Lookup
+pub mod Feeding
 pub mod OneChange

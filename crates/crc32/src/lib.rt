@@ -1,17 +1,82 @@
-// CRC-32 of a slice, a byte at a time by a table.
+// CRC-32 of a slice, four bytes at a time by a table of hex digits: a table of 512 bytes is copied fast at each call, and a larger one is not.
 ghost use mathlib.Core.Path.{_≡_};
-ghost use Rattle.crc32.specs.Crc32.{feed, crc32Of};
-ghost use Rattle.crc32.specs.Table.{IsTable};
+ghost use Prim.Native.Nat.{_+_, _*_, _/_, _%_, _^_, _≤_, _<_};
+ghost use lib.ListN.{length, drop};
+ghost use Rattle.crc32.specs.Crc32.{allOnes, shifts, feed, feedAll, crc32Of};
+ghost use Rattle.crc32.specs.Table.{digitOut, IsTable, wordAt};
 
 mod table;
 
-// One byte comes in: the table at the low byte, and the rest moved down.
-fn step(t: &[u32; 256], c: u32, b: u8) -> u32
+fn pair(low: u8, high: u8) -> u16
+    ensures { λ r. ⌜ r ≡ low + high * 2 ^ 8 ⌝ }
+{
+    (low as u16) + (high as u16) * 256
+}
+
+// The four bytes from a place on; of two pairs the compiler makes one load.
+fn word(s: &[u8], at: usize) -> u32
+    requires { ⌜ at + 4 ≤ length (now s) ⌝ }
+    ensures { λ r. ⌜ r ≡ wordAt (now (s .entry)) at ⌝ }
+{
+    (pair(s[at], s[at + 1]) as u32) + (pair(s[at + 2], s[at + 3]) as u32) * 65536
+}
+
+// The low hex digit of x goes out from a place of a word.
+fn digit_out(t: &[u32; 128], place: usize, x: u32) -> u32
+    requires { ⌜ IsTable (now t) ⌝ }
+    requires { ⌜ place < 8 ⌝ }
+    ensures { λ r. ⌜ r ≡ digitOut place (x % 16) ⌝ }
+{
+    t[16 * place + (x % 16) as usize]
+}
+
+// All 32 bits of a word go out.
+fn word_out(t: &[u32; 128], x: u32) -> u32
+    requires { ⌜ IsTable (now t) ⌝ }
+    ensures { λ r. ⌜ r ≡ shifts 32 x ⌝ }
+{
+    let a = digit_out(t, 0, x) ^ digit_out(t, 1, x / 16);
+    let b = digit_out(t, 2, x / 256) ^ digit_out(t, 3, x / 4096);
+    let c = digit_out(t, 4, x / 65536) ^ digit_out(t, 5, x / 1048576);
+    let d = digit_out(t, 6, x / 16777216) ^ digit_out(t, 7, x / 268435456);
+    (a ^ b) ^ (c ^ d)
+}
+
+// One byte comes in: it goes out as the top byte of a word would, and the rest is moved down.
+fn byte_in(t: &[u32; 128], c: u32, b: u8) -> u32
     requires { ⌜ IsTable (now t) ⌝ }
     ensures { λ r. ⌜ r ≡ feed c b ⌝ }
 {
-    let low = ((c ^ (b as u32)) % 256) as usize;
-    t[low] ^ (c / 256)
+    let low = (c ^ (b as u32)) % 256;
+    digit_out(t, 6, low) ^ digit_out(t, 7, low / 16) ^ (c / 256)
+}
+
+// The state once all whole words have come in.
+fn words_in(t: &[u32; 128], s: &[u8]) -> u32
+    requires { ⌜ IsTable (now t) ⌝ }
+    ensures { λ r. ⌜ feedAll r (drop (4 * (length (now (s .entry)) / 4)) (now (s .entry))) ≡ feedAll allOnes (now (s .entry)) ⌝ }
+{
+    let n = s.len() / 4;
+    let mut c: u32 = 0xffffffff;
+    let mut i: usize = 0;
+    while i < n {
+        c = word_out(t, c ^ word(s, 4 * i));
+        i += 1;
+    }
+    c
+}
+
+fn bytes_in(t: &[u32; 128], state: u32, s: &[u8]) -> u32
+    requires { ⌜ IsTable (now t) ⌝ }
+    ensures { λ r. ⌜ r ≡ feedAll state (now (s .entry)) ⌝ }
+{
+    let mut c = state;
+    let mut i: usize = 0;
+    while i < s.len() {
+        c = byte_in(t, c, s[i]);
+        i += 1;
+    }
+    c
 }
 
 // CRC-32 of the bytes.
@@ -19,11 +84,7 @@ pub fn crc32(s: &[u8]) -> u32
     ensures { λ r. ⌜ r ≡ crc32Of (now (s .entry)) ⌝ }
 {
     let t = table::table();
-    let mut c: u32 = 0xffffffff;
-    let mut i: usize = 0;
-    while i < s.len() {
-        c = step(&t, c, s[i]);
-        i += 1;
-    }
-    0xffffffff - c
+    let c = words_in(&t, s);
+    let whole = 4 * (s.len() / 4);
+    0xffffffff - bytes_in(&t, c, &s[whole..])
 }

@@ -1,76 +1,59 @@
--- `crc32::crc32` meets its contract. The invariant: feeding what remains to the state gives what the whole gives from the start.
-use mathlib.Core.Path.{_≡_, ap, ap₂, sym, _∙_}
-use Prim.Native.Nat.{ℕ, _+_, _-_, _<_, _≤_, _^_}
-use native.Mathlib.Numerals.{add-one}
+-- `crc32::crc32` meets its contract: the whole words, then the bytes after them.
+use mathlib.Core.Path.{ap, _∙_}
+use Prim.Native.Nat.{ℕ, _-_, _*_, _/_}
 use native.Mathlib.Omega.{arith}
-use borrow.Author.Needs.{needs}
-use lib.ListN.{length, drop}
-use lib.Seq.{drop-cons, drop-length}
+use lib.ListN.{length, drop, length-drop}
+use lib.Seq.{take-all}
 use Rattle.crc32.specs.Crc32.{allOnes, feedAll, crc32Of}
-use Rattle.crc32.specs.Table.{IsTable}
+use borrow.Author.Needs.{needs}
 use Rattle.crc32.proofs.crc32.Statement.{statement}
 use Rattle.crc32.proofs.crc32.Tie as tie
 
-abbrev Inv-loop : tie.InvT-loop
-Inv-loop s t c₀ i₀ c i = (i ≤ length s) × (c < 2 ^ 32) × (feedAll c (drop i s) ≡ feedAll allOnes s)
-
-abbrev μ-loop : tie.MeasureT-loop
-μ-loop s t c₀ i₀ c i = length s - i
-
-table-requires : tie.Need-table-requires Inv-loop μ-loop
+table-requires : tie.Need-table-requires
 table-requires c κs = search needs
 
-loop-holds : tie.Need-loop-holds Inv-loop μ-loop
-loop-holds c = search needs
+words-in-requires : tie.Need-words-in-requires
+words-in-requires c κs = search needs
 
-shared-slice-read-step : tie.Need-shared-slice-read-step Inv-loop μ-loop
-shared-slice-read-step c = search needs
+mul-whole : tie.Need-mul-whole
+mul-whole c = search needs
 
-step-requires : tie.Need-step-requires Inv-loop μ-loop
-step-requires c κs = search needs
+sub-bytes-in : tie.Need-sub-bytes-in
+sub-bytes-in c = search needs
 
-add-i : tie.Need-add-i Inv-loop μ-loop
-add-i c = search needs
+part-bytes-in-start : tie.Need-part-bytes-in-start
+part-bytes-in-start c = search needs
 
-loop-less : tie.Need-loop-less Inv-loop μ-loop
-loop-less c = search needs
+part-bytes-in-end : tie.Need-part-bytes-in-end
+part-bytes-in-end c = search needs
 
-loop-again : tie.Need-loop-again Inv-loop μ-loop
-unfolding feedAll
-loop-again c =
-    let l = c .before .before .before .before .loop in
-    let s = c .before .before .before .before .before .before .before .args .s .now in
-    let h : l .i < length s = search needs in (
-      search needs,
-      search needs,
-      ap₂ feedAll (c .step .ensures) (ap (λ (n : ℕ). drop n s) (add-one (l .i)))
-          ∙ ap (feedAll (l .c)) (sym (drop-cons s (l .i) 0 h))
-          ∙ l .inv .2,
-    )
+bytes-in-requires : tie.Need-bytes-in-requires
+bytes-in-requires c κs = search needs
 
-sub-result : tie.Need-sub-result Inv-loop μ-loop
+sub-result : tie.Need-sub-result
 sub-result c = search needs
 
-returns : tie.Need-returns Inv-loop μ-loop
-unfolding feedAll crc32Of
+returns : tie.Need-returns
+unfolding crc32Of
 returns c =
-    let l = c .before .loop in
-    let s = c .before .before .before .before .args .s .now in
-    let end : l .i ≡ length s = omega arith in
-    ap (λ (x : ℕ). allOnes - x) (ap (feedAll (l .c)) (sym (drop-length s) ∙ ap (λ (n : ℕ). drop n s) (sym end)) ∙ l .inv .2)
+    let in-words = c .before .before .before in
+    let s = in-words .before .before .before .before .args .s .now in
+    let whole = 4 * (length s / 4) in
+    ap (λ (x : ℕ). allOnes - x)
+    (c .bytes-in .ensures
+    ∙ ap (feedAll (in-words .words-in .result)) (take-all (length s - whole) (drop whole s) (simp length-drop (omega arith)))
+    ∙ in-words .words-in .ensures)
 
 pub crc32-spec : {M : Type 1} → statement M
 crc32-spec =
     tie.close
     (tie.spec
-    Inv-loop
-    μ-loop
     table-requires
-    loop-holds
-    shared-slice-read-step
-    step-requires
-    add-i
-    loop-less
-    loop-again
+    words-in-requires
+    mul-whole
+    sub-bytes-in
+    part-bytes-in-start
+    part-bytes-in-end
+    bytes-in-requires
     sub-result
     returns)
