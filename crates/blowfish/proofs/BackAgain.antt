@@ -1,10 +1,9 @@
 -- Deciphering undoes enciphering, round by round, for every F and every P; and the other way round, since the far end of the far end is the near one.
 -- Assumes nothing.
-use mathlib.Core.Path.{_≡_, refl, sym, ap, ap₂, _∙_}
-use mathlib.Core.List.{List}
+use mathlib.Core.Path.{_≡_, refl, ap, ap₂, _∙_}
 use Prim.Native.Nat.{ℕ, zero, suc, _+_, _-_, _<_}
 use native.Mathlib.Omega.{arith}
-use lib.Bits.{bitXor, xor-comm}
+use lib.Bits.{bitXor}
 use lib.Dec.{lit<}
 use Rattle.text.proofs.Xor.{xor-twice, xor-swap}
 use Rattle.blowfish.specs.Cipher.{F, P, farEnd, Block, exchange, round, rounds, whiten, cipher}

@@ -9,7 +9,7 @@ use native.Mathlib.Omega.{arith}
 use lib.Dec.{T, ltb, eqb, ltb→lt, eqb→eq}
 use lib.ListN.{length, getD, List·getD-eq-default}
 use lib.Seq.{sets}
-use Rattle.text.specs.Numbers.{value, digits, Below}
+use Rattle.text.specs.Numbers.{value, digits}
 use Rattle.text.proofs.Digits.{digits-value}
 use Rattle.text.proofs.Tables.{each, at-each}
 use Rattle.blowfish.specs.Pi.{piFraction, startWords}

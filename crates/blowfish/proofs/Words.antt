@@ -1,19 +1,19 @@
 -- Words stay words and blocks stay blocks, so the laws hold of blocks as numbers; the words of a key have 32 bits.
 -- Assumes nothing.
-use mathlib.Core.Path.{_≡_, refl, sym, ap, ap₂, _∙_}
+use mathlib.Core.Path.{_≡_, ap, ap₂, _∙_}
 use mathlib.Core.List.{List, [], _∷_}
 use Prim.Native.Nat.{ℕ, zero, suc, _+_, _-_, _*_, _/_, _%_, _^_, _<_}
 use native.Mathlib.Nat.{mod-lt, div-add-mod'}
 use native.Mathlib.Omega.{arith}
 use lib.Arith.{digits-div, digits-mod}
-use lib.Bits.{bitXor, xor-lt}
+use lib.Bits.{xor-lt}
 use lib.Dec.{lit<}
-use lib.ListN.{length, getD, set}
+use lib.ListN.{length, set}
 use Rattle.text.specs.Numbers.{Below}
 use Rattle.text.proofs.Digits.{digits-below}
 use Rattle.blowfish.specs.Pi.{piFraction, startWords}
 use Rattle.blowfish.specs.Cipher.{F, P, farEnd, Block, rounds, cipher, blockOf, numberOf, encipherOf, decipherOf}
-use Rattle.blowfish.specs.Schedule.{keyByte, keyWord, keyed, Filling, filled, schedule}
+use Rattle.blowfish.specs.Schedule.{keyWord, keyed, Filling, filled, schedule}
 use Rattle.blowfish.specs.BackAgain.{NumberBack, NumberForth, BlocksStayBlocks, KeysHaveWords}
 use Rattle.blowfish.proofs.BackAgain.{decipher-after-encipher, encipher-after-decipher}
 

@@ -8,7 +8,7 @@ use native.Mathlib.Nat.{div-add-mod', div-eq-of-lt, le-of-suc-le-suc}
 use native.Mathlib.Omega.{arith}
 use lib.Bits.{bitXor, xor-shr, xor-lt}
 use lib.Dec.{lit<}
-use lib.ListN.{length, getD}
+use lib.ListN.{getD}
 use lib.Seq.{ext-getD}
 use Rattle.text.specs.Numbers.{Below}
 use Rattle.text.proofs.Xor.{Bit, low-bit, xor-cancel-right, xor-cancel-left}

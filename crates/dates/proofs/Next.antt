@@ -8,6 +8,7 @@ use native.Mathlib.Omega.{arith}
 use borrow.Author.Tests.{lt-ltb, le-ltb}
 use lib.Dec.{lit≤}
 use Rattle.dates.specs.Calendar.{year, month, day, isLeap, monthLengths, daysIn, isDate, daysBeforeYear, sum, daysBeforeMonth, dayNumber, dateOf, nextDate}
+use Rattle.dates.specs.Order.{NoGap}
 use Rattle.dates.proofs.Months.{month-long, month-step, year-end}
 use Rattle.dates.proofs.Years.{year-step}
 use Rattle.dates.proofs.Parts.{Parts, Numbered, date-parts, parts-date, put-together, number-of-date}
@@ -84,6 +85,5 @@ module _ (n : ℕ) (p : Parts n) (number : Numbered n) where
   after h =
       ⊎-elim (λ last. after-month last h) (λ d. rw (lt-ltb (day n) _ d) (within-month d)) (eq-or-lt-of-le (p .day-high))
 
--- every date but the last has a date after it, with the next number
-pub next-number : (n : ℕ) → isDate n ≡ true → n < 29991231 → (isDate (nextDate n) ≡ true) × (dayNumber (nextDate n) ≡ dayNumber n + 1)
-next-number n date = after n (date-parts n date) (number-of-date n date)
+pub no-gap : NoGap
+no-gap n date = after n (date-parts n date) (number-of-date n date)

@@ -45,13 +45,6 @@ module _ (n : ℕ) where
   put-together = omega arith
 
   -- the first and the last date: a date has eight digits
-  pub first-to-last : isDate n ≡ true → (19000101 ≤ n) × (n ≤ 29991231)
-  first-to-last e =
-      let p = date-parts e in
-      let long = month-long (year n) (month n) (p .month-low) (p .month-high) in
-      let whole = put-together in
-      omega arith
-
   pub number-of-date : isDate n ≡ true → Numbered n
   unfolding dayNumber
   number-of-date e = rw e

@@ -9,6 +9,7 @@ use native.Mathlib.Numerals.{add-one}
 use native.Mathlib.Omega.{arith}
 use lib.ListN.{getD, take}
 use Rattle.dates.specs.Calendar.{year, month, day, isLeap, monthLengths, daysIn, isDate, daysBeforeYear, sum, daysBeforeMonth, dayNumber}
+use Rattle.dates.specs.Order.{Rising}
 use Rattle.dates.proofs.Parts.{Parts, Numbered, date-parts, put-together, number-of-date}
 use Rattle.dates.proofs.Months.{sum-take}
 use Rattle.dates.proofs.Years.{year-step}
@@ -64,7 +65,7 @@ module _ (a b : ℕ) (p : Parts a) (q : Parts b) (m : Numbered a) (n : Numbered 
       let years : year a ≤ year b = omega arith in
       ⊎-elim (same-year h) earlier-year (eq-or-lt-of-le years)
 
-pub rising : (a b : ℕ) → isDate a ≡ true → isDate b ≡ true → a < b → dayNumber a < dayNumber b
+pub rising : Rising
 rising a b da db = by-parts a b (date-parts a da) (date-parts b db) (number-of-date a da) (number-of-date b db)
 
 pub same-number-same-date : (a b : ℕ) → isDate a ≡ true → isDate b ≡ true → dayNumber a ≡ dayNumber b → a ≡ b

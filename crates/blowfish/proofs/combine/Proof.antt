@@ -1,6 +1,5 @@
 -- `blowfish::combine` meets its contract. The invariant: i words are combined, and the key's place is that of the byte 4 * i.
 use mathlib.Core.Path.{_≡_, refl, ap, sym, _∙_}
-use mathlib.Core.List.{List}
 use Prim.Native.Nat.{ℕ, _+_, _-_, _*_, _%_, _≤_, _<_}
 use native.Mathlib.Nat.{zero-mod, mod-add-mod}
 use native.Mathlib.Numerals.{add-one}
