@@ -12,8 +12,8 @@ mod start;
 fn round_function(words: &[u32; 1042], x: u32) -> u32
     ensures { λ r. ⌜ r ≡ F (now (words .entry)) x ⌝ }
 {
-    let a = words[18 + (x / 16777216 % 256) as usize];
-    let b = words[274 + (x / 65536 % 256) as usize];
+    let a = words[18 + (x / 0x100_0000 % 256) as usize];
+    let b = words[274 + (x / 0x1_0000 % 256) as usize];
     let c = words[530 + (x / 256 % 256) as usize];
     let d = words[786 + (x % 256) as usize];
     std::num::wrapping_add_u32(std::num::wrapping_add_u32(a, b) ^ c, d)
@@ -22,19 +22,19 @@ fn round_function(words: &[u32; 1042], x: u32) -> u32
 fn left(block: u64) -> u32
     ensures { λ r. ⌜ r ≡ block / 2 ^ 32 ⌝ }
 {
-    (block / 4294967296) as u32
+    (block / 0x1_0000_0000) as u32
 }
 
 fn right(block: u64) -> u32
     ensures { λ r. ⌜ r ≡ block % 2 ^ 32 ⌝ }
 {
-    (block % 4294967296) as u32
+    (block % 0x1_0000_0000) as u32
 }
 
 fn joined(left: u32, right: u32) -> u64
     ensures { λ r. ⌜ r ≡ left * 2 ^ 32 + right ⌝ }
 {
-    (left as u64) * 4294967296 + (right as u64)
+    (left as u64) * 0x1_0000_0000 + (right as u64)
 }
 
 // The block enciphered. A turn holds L and R with the next words of P already combined, which keeps one step off the longest way through a round.
@@ -85,7 +85,7 @@ fn following(key: &[u8], at: usize) -> usize
 fn word(a: u8, b: u8, c: u8, d: u8) -> u32
     ensures { λ r. ⌜ r ≡ a * 2 ^ 24 + b * 2 ^ 16 + c * 2 ^ 8 + d ⌝ }
 {
-    (a as u32) * 16777216 + (b as u32) * 65536 + (c as u32) * 256 + (d as u32)
+    (a as u32) * 0x100_0000 + (b as u32) * 0x1_0000 + (c as u32) * 256 + (d as u32)
 }
 
 fn key_word(key: &[u8], at: usize) -> KeyWord

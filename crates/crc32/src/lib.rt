@@ -18,7 +18,7 @@ fn word(s: &[u8], at: usize) -> u32
     requires { ⌜ at + 4 ≤ length (now s) ⌝ }
     ensures { λ r. ⌜ r ≡ wordAt (now (s .entry)) at ⌝ }
 {
-    (pair(s[at], s[at + 1]) as u32) + (pair(s[at + 2], s[at + 3]) as u32) * 65536
+    (pair(s[at], s[at + 1]) as u32) + (pair(s[at + 2], s[at + 3]) as u32) * 0x1_0000
 }
 
 // The low hex digit of x goes out from a place of a word.
@@ -35,10 +35,10 @@ fn word_out(t: &[u32; 128], x: u32) -> u32
     requires { ⌜ IsTable (now t) ⌝ }
     ensures { λ r. ⌜ r ≡ shifts 32 x ⌝ }
 {
-    let a = digit_out(t, 0, x) ^ digit_out(t, 1, x / 16);
-    let b = digit_out(t, 2, x / 256) ^ digit_out(t, 3, x / 4096);
-    let c = digit_out(t, 4, x / 65536) ^ digit_out(t, 5, x / 1048576);
-    let d = digit_out(t, 6, x / 16777216) ^ digit_out(t, 7, x / 268435456);
+    let a = digit_out(t, 0, x) ^ digit_out(t, 1, x / 0x10);
+    let b = digit_out(t, 2, x / 0x100) ^ digit_out(t, 3, x / 0x1000);
+    let c = digit_out(t, 4, x / 0x1_0000) ^ digit_out(t, 5, x / 0x10_0000);
+    let d = digit_out(t, 6, x / 0x100_0000) ^ digit_out(t, 7, x / 0x1000_0000);
     (a ^ b) ^ (c ^ d)
 }
 

@@ -4,33 +4,22 @@ use Rattle.blowfish.proofs.Keys.{refused-short, refused-long, taken, st
 use borrow.Author.Needs.{needs}
 use Rattle.blowfish.proofs.key_schedule.Statement.{statement}
 use Rattle.blowfish.proofs.key_schedule.Tie as tie
-use Rattle.blowfish.proofs.key_schedule.Reads as reads
-use Rattle.blowfish.proofs.key_schedule.Lts as lts
-use Rattle.blowfish.proofs.combine.Reads as combine-reads
-use Rattle.blowfish.proofs.fill.Reads as fill-reads
-use Rattle.blowfish.proofs.start.start.Reads as start-reads
 
--- src/lib.rt:138:9
 returns : tie.Need-returns
 returns c = refused-short (c .before .before .args .key .now) (c .before .before .args .words .now) (c .if1 .taken)
 
--- src/lib.rt:141:9
 returns-2 : tie.Need-returns-2
 returns-2 c = refused-long (c .before .before .before .args .key .now) (c .before .before .before .args .words .now) (c .if2 .taken)
 
--- src/lib.rt:143:14
 start-requires : tie.Need-start-requires
 start-requires c κs = search needs
 
--- src/lib.rt:144:5
 combine-requires : tie.Need-combine-requires
 combine-requires c κs = search needs
 
--- src/lib.rt:145:5
 fill-requires : tie.Need-fill-requires
 fill-requires c κs = search needs
 
--- src/lib.rt:134:1
 returns-3 : tie.Need-returns-3
 returns-3 c =
     let started = c .before .before .before .before in

@@ -6,51 +6,37 @@ use Rattle.blowfish.proofs.PiWords.{tables-are-pi}
 use borrow.Author.Needs.{needs}
 use Rattle.blowfish.proofs.start.start.Statement.{statement}
 use Rattle.blowfish.proofs.start.start.Tie as tie
-use Rattle.blowfish.proofs.start.start.Reads as reads
-use Rattle.blowfish.proofs.start.start.Lts as lts
-use Rattle.blowfish.proofs.start.place.Reads as place-reads
 
--- src/start.rt:1082:26
 slice-aggregate-place : tie.Need-slice-aggregate-place
 slice-aggregate-place c = search needs
 
--- src/start.rt:1082:5
 place-requires : tie.Need-place-requires
 place-requires c κs = search needs
 
--- src/start.rt:1083:27
 slice-aggregate-place-2 : tie.Need-slice-aggregate-place-2
 slice-aggregate-place-2 c = search needs
 
--- src/start.rt:1083:5
 place-requires-2 : tie.Need-place-requires-2
 place-requires-2 c κs = search needs
 
--- src/start.rt:1084:28
 slice-aggregate-place-3 : tie.Need-slice-aggregate-place-3
 slice-aggregate-place-3 c = search needs
 
--- src/start.rt:1084:5
 place-requires-3 : tie.Need-place-requires-3
 place-requires-3 c κs = search needs
 
--- src/start.rt:1085:28
 slice-aggregate-place-4 : tie.Need-slice-aggregate-place-4
 slice-aggregate-place-4 c = search needs
 
--- src/start.rt:1085:5
 place-requires-4 : tie.Need-place-requires-4
 place-requires-4 c κs = search needs
 
--- src/start.rt:1086:28
 slice-aggregate-place-5 : tie.Need-slice-aggregate-place-5
 slice-aggregate-place-5 c = search needs
 
--- src/start.rt:1086:5
 place-requires-5 : tie.Need-place-requires-5
 place-requires-5 c κs = search needs
 
--- src/start.rt:1078:1
 returns : tie.Need-returns
 unfolding value series piTimes piFraction
 returns c =
