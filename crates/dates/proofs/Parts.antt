@@ -5,7 +5,6 @@ use Prim.Native.Nat.{ℕ, _+_, _*_, _<_, _≤_}
 use native.Mathlib.Omega.{arith}
 use Rattle.dates.specs.Calendar.{year, month, day, daysIn, within, isDate, daysBeforeYear, daysBeforeMonth, dayNumber}
 use Rattle.dates.proofs.Bounds.{both, inside, bounds}
-use Rattle.dates.proofs.Months.{month-long}
 
 pub record Parts (n : ℕ) : Type 0 where
   pub year-low : 1900 ≤ year n
