@@ -1,7 +1,7 @@
 -- Words stay words and blocks stay blocks, so the laws hold of blocks as numbers; the words of a key have 32 bits.
 -- Assumes nothing.
 use mathlib.Core.Path.{_≡_, ap, ap₂, _∙_}
-use mathlib.Core.List.{List, [], _∷_}
+use mathlib.Core.List.{List}
 use Prim.Native.Nat.{ℕ, zero, suc, _+_, _-_, _*_, _/_, _%_, _^_, _<_}
 use native.Mathlib.Nat.{mod-lt, div-add-mod'}
 use native.Mathlib.Omega.{arith}
@@ -10,9 +10,9 @@ use lib.Bits.{xor-lt}
 use lib.Dec.{lit<}
 use lib.ListN.{length, set}
 use Rattle.text.specs.Numbers.{Below}
-use Rattle.text.proofs.Digits.{digits-below}
+use Rattle.text.proofs.Digits.{digits-below, set-below}
 use Rattle.blowfish.specs.Pi.{piFraction, startWords}
-use Rattle.blowfish.specs.Cipher.{F, P, farEnd, Block, rounds, cipher, blockOf, numberOf, encipherOf, decipherOf}
+use Rattle.blowfish.specs.Cipher.{F, P, farEnd, Block, block, rounds, cipher, blockOf, numberOf, encipherOf, decipherOf}
 use Rattle.blowfish.specs.Schedule.{keyWord, keyed, Filling, filled, schedule}
 use Rattle.blowfish.specs.BackAgain.{NumberBack, NumberForth, BlocksStayBlocks, KeysHaveWords}
 use Rattle.blowfish.proofs.BackAgain.{decipher-after-encipher, encipher-after-decipher}
@@ -40,7 +40,7 @@ module _ (f p : ℕ → ℕ) (words-f : (x : ℕ) → Word (f x)) (words-p : (i 
 
 -- a block's number is taken apart again
 parts : (b : Block) → Word (b .right) → blockOf (numberOf b) ≡ b
-parts b r = ap₂ (λ (x y : ℕ). record { left = x; right = y }) (digits-div (b .left) r) (digits-mod (b .left) r)
+parts b r = ap₂ block (digits-div (b .left) r) (digits-mod (b .left) r)
 
 whole : (x : ℕ) → numberOf (blockOf x) ≡ x
 whole x = div-add-mod' x (2 ^ 32)
@@ -78,13 +78,6 @@ blocks-stay-blocks w words x fits =
     let e = enciphered w words x fits in
     let d = deciphered w words x fits in
     (number-lt _ (e .0) (e .1), number-lt _ (d .0) (d .1))
-
-set-below : {b : ℕ} (l : List ℕ) (i v : ℕ) → Below b l → v < b → Below b (set l i v)
-set-below [] i v h hv k = h k
-set-below (x ∷ l) zero v h hv zero = hv
-set-below (x ∷ l) zero v h hv (suc k) = h (suc k)
-set-below (x ∷ l) (suc i) v h hv zero = h zero
-set-below (x ∷ l) (suc i) v h hv (suc k) = set-below l i v (λ j. h (suc j)) hv k
 
 module _ (key : List ℕ) (bytes : Below 256 key) where
   keyWord-word : (i : ℕ) → Word (keyWord key i)

@@ -6,7 +6,7 @@ use Prim.Native.Nat.{ℕ, zero, suc, _+_, _*_, _/_, _%_, _^_, _<_}
 use native.Mathlib.Nat.{add-suc, suc-add, zero-add, add-zero, mul-assoc, add-mul, pow-zero, pow-suc, pow-succ', mul-left-comm, mod-one, mod-lt, mod-eq-of-lt, one-le-pow, mul-add-div, mul-add-mod-self-right, div-add-mod'}
 use native.Mathlib.Omega.{arith}
 use lib.Arith.{digits-div, digits-lt, mod-mul}
-use lib.ListN.{length, take, drop, replicate, length-append, List·getD-eq-default}
+use lib.ListN.{length, take, drop, set, replicate, length-append, List·getD-eq-default}
 use lib.Seq.{getD-drop}
 use lib.Pow.{pow-add}
 use Rattle.text.specs.Numbers.{digits, value, Below}
@@ -22,6 +22,13 @@ take-below (suc n) (c ∷ s) below (suc i) = take-below n s (λ j. below (suc j)
 
 pub drop-below : {b : ℕ} (n : ℕ) (s : List ℕ) → Below b s → Below b (drop n s)
 drop-below n s below i = rw getD-drop (below (n + i))
+
+pub set-below : {b : ℕ} (s : List ℕ) (i v : ℕ) → Below b s → v < b → Below b (set s i v)
+set-below [] i v h hv k = h k
+set-below (x ∷ l) zero v h hv zero = hv
+set-below (x ∷ l) zero v h hv (suc k) = h (suc k)
+set-below (x ∷ l) (suc i) v h hv zero = h zero
+set-below (x ∷ l) (suc i) v h hv (suc k) = set-below l i v (λ j. h (suc j)) hv k
 
 pub replicate-below : (b n d : ℕ) → d < b → Below b (replicate n d)
 replicate-below b zero d h i = omega arith

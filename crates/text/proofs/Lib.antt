@@ -5,4 +5,5 @@ pub mod Every
 pub mod Alphabets
 pub mod Notations
 pub mod Pads
+pub mod Inverses
 pub mod Places

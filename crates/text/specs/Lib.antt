@@ -2,3 +2,4 @@ pub mod Numbers
 pub mod Characters
 pub mod Places
 pub mod Padding
+pub mod Inverse
