@@ -6,11 +6,8 @@ use native.Mathlib.Omega.{arith}
 use lib.Bits.{bitXor}
 use lib.Dec.{lit<}
 use Rattle.text.proofs.Xor.{xor-twice, xor-swap}
-use Rattle.blowfish.specs.Cipher.{F, P, farEnd, Block, exchange, round, rounds, whiten, cipher}
+use Rattle.blowfish.specs.Cipher.{F, P, farEnd, Block, block, exchange, round, rounds, whiten, cipher}
 use Rattle.blowfish.specs.BackAgain.{DecipherAfterEncipher, EncipherAfterDecipher}
-
-abbrev block : ℕ → ℕ → Block
-block l r = record { left = l; right = r }
 
 -- exchanged, and the words j and k combined
 abbrev final : ℕ → ℕ → Block → Block

@@ -11,7 +11,7 @@ use lib.ListN.{length}
 use Rattle.blowfish.specs.Pi.{startWords}
 use Rattle.blowfish.specs.Schedule.{isKey, keyNumber, keyed, filled, schedule, scheduled}
 
-module _ (key before : List ℕ) where
+module _ (key : List ℕ) where
   too-short : length key < 4 → isKey key ≡ false
   unfolding isKey
   too-short h = ap (λ (t : Bool). t && leb (length key) 56) (lt-leb 4 (length key) h)
@@ -24,25 +24,30 @@ module _ (key before : List ℕ) where
   unfolding isKey
   good h k = ap₂ (λ (t u : Bool). t && u) (le-leb 4 (length key) h) (le-leb (length key) 56 k)
 
-  no-key : isKey key ≡ false → (103 ≡ keyNumber key) × (before ≡ scheduled key before)
-  unfolding keyNumber scheduled
-  no-key e = (rw e, rw e)
-
-  pub refused-short : length key < 4 → (103 ≡ keyNumber key) × (before ≡ scheduled key before)
-  refused-short h = no-key (too-short h)
-
-  pub refused-long : 56 < length key → (103 ≡ keyNumber key) × (before ≡ scheduled key before)
-  refused-long h = no-key (too-long h)
-
-  pub taken : 4 ≤ length key → length key ≤ 56 → (0 ≡ keyNumber key) × (schedule key ≡ scheduled key before)
-  unfolding keyNumber scheduled
-  taken h k = let e : isKey key ≡ true = good h k in (rw e, rw e)
-
   -- start, combine, fill
   pub steps : (w₁ w₂ w₃ : List ℕ) → w₁ ≡ startWords → w₂ ≡ keyed key 18 w₁ → w₃ ≡ filled 521 (record { words = w₂; block = 0 }) .words → w₃ ≡ schedule key
   unfolding schedule
   steps w₁ w₂ w₃ e₁ e₂ e₃ =
       e₃ ∙ ap (λ (w : List ℕ). filled 521 (record { words = w; block = 0 }) .words) (e₂ ∙ ap (keyed key 18) e₁)
+
+-- what comes back and what the lent words then are
+abbrev Answered : List ℕ → List ℕ → ℕ → List ℕ → Type 0
+Answered key before n after = (n ≡ keyNumber key) × (after ≡ scheduled key before)
+
+module _ (key before : List ℕ) where
+  no-key : isKey key ≡ false → Answered key before 103 before
+  unfolding keyNumber scheduled
+  no-key e = (rw e, rw e)
+
+  pub refused-short : length key < 4 → Answered key before 103 before
+  refused-short h = no-key (too-short key h)
+
+  pub refused-long : 56 < length key → Answered key before 103 before
+  refused-long h = no-key (too-long key h)
+
+  pub taken : 4 ≤ length key → length key ≤ 56 → Answered key before 0 (schedule key)
+  unfolding keyNumber scheduled
+  taken h k = let e : isKey key ≡ true = good key h k in (rw e, rw e)
 
 -- the number tells whether it was a key
 by-number : (b : Bool) → _≡_ {A = ℕ} (cond b 0 103) 0 → b ≡ true

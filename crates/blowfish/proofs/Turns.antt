@@ -6,10 +6,7 @@ use native.Mathlib.Numerals.{add-one}
 use native.Mathlib.Omega.{arith}
 use lib.Bits.{bitXor}
 use Rattle.text.proofs.Xor.{xor-swap}
-use Rattle.blowfish.specs.Cipher.{Block, round, rounds, cipher, numberOf}
-
-abbrev pub block : ℕ → ℕ → Block
-block l r = record { left = l; right = r }
+use Rattle.blowfish.specs.Cipher.{Block, block, round, rounds, cipher, numberOf}
 
 -- the words n and n + 1 are combined already
 abbrev pub ahead : (ℕ → ℕ) → ℕ → Block → Block

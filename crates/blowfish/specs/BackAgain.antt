@@ -6,10 +6,11 @@ use Rattle.text.specs.Numbers.{Below}
 use Rattle.blowfish.specs.Cipher.{F, P, farEnd, Block, cipher, encipherOf, decipherOf}
 use Rattle.blowfish.specs.Schedule.{schedule}
 
--- for every P and S, not only those that come from a key
+-- deciphering after enciphering, for every P and S, not only those that come from a key
 abbrev pub DecipherAfterEncipher : Type 0
 DecipherAfterEncipher = (w : List ℕ) (b : Block) → cipher (F w) (farEnd w) (cipher (F w) (P w) b) ≡ b
 
+-- enciphering after deciphering too
 abbrev pub EncipherAfterDecipher : Type 0
 EncipherAfterDecipher = (w : List ℕ) (b : Block) → cipher (F w) (P w) (cipher (F w) (farEnd w) b) ≡ b
 
@@ -17,6 +18,7 @@ EncipherAfterDecipher = (w : List ℕ) (b : Block) → cipher (F w) (P w) (ciphe
 abbrev pub NumberBack : Type 0
 NumberBack = (w : List ℕ) → Below (2 ^ 32) w → (x : ℕ) → x < 2 ^ 64 → decipherOf w (encipherOf w x) ≡ x
 
+-- and the other way round
 abbrev pub NumberForth : Type 0
 NumberForth = (w : List ℕ) → Below (2 ^ 32) w → (x : ℕ) → x < 2 ^ 64 → encipherOf w (decipherOf w x) ≡ x
 

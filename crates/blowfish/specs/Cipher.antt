@@ -4,19 +4,23 @@ use Prim.Native.Nat.{ℕ, zero, suc, _+_, _-_, _*_, _/_, _%_, _^_}
 use lib.Bits.{bitXor}
 use lib.ListN.{getD}
 
--- P1 to P18, counted from 0
+-- P1 to P18: the word i, counted from 0
 abbrev pub P : List ℕ → ℕ → ℕ
 P w i = getD w i 0
 
+-- S1[a]
 abbrev pub S1 : List ℕ → ℕ → ℕ
 S1 w a = getD w (18 + a) 0
 
+-- S2[b]
 abbrev pub S2 : List ℕ → ℕ → ℕ
 S2 w b = getD w (274 + b) 0
 
+-- S3[c]
 abbrev pub S3 : List ℕ → ℕ → ℕ
 S3 w c = getD w (530 + c) 0
 
+-- S4[d]
 abbrev pub S4 : List ℕ → ℕ → ℕ
 S4 w d = getD w (786 + d) 0
 
@@ -30,13 +34,17 @@ pub record Block : Type 0 where
   pub left : ℕ
   pub right : ℕ
 
+-- the block of two words
+abbrev pub block : ℕ → ℕ → Block
+block l r = record { left = l; right = r }
+
+-- L and R exchanged
 abbrev pub exchange : Block → Block
-exchange b = record { left = b .right; right = b .left }
+exchange b = block (b .right) (b .left)
 
 -- L xor p, then R xor f(L), then exchange
 abbrev pub round : (ℕ → ℕ) → ℕ → Block → Block
-round f p b =
-    exchange (record { left = bitXor (b .left) p; right = bitXor (b .right) (f (bitXor (b .left) p)) })
+round f p b = exchange (block (bitXor (b .left) p) (bitXor (b .right) (f (bitXor (b .left) p))))
 
 -- n rounds, with the words p 0, p 1, ..
 unfoldable pub rounds : (ℕ → ℕ) → (ℕ → ℕ) → ℕ → Block → Block
@@ -45,7 +53,7 @@ rounds f p (suc n) b = round f (p n) (rounds f p n b)
 
 -- R xor the seventeenth word, L xor the eighteenth
 abbrev pub whiten : (ℕ → ℕ) → Block → Block
-whiten p b = record { left = bitXor (b .left) (p 17); right = bitXor (b .right) (p 16) }
+whiten p b = block (bitXor (b .left) (p 17)) (bitXor (b .right) (p 16))
 
 -- sixteen rounds, the last exchange undone, and the last two words
 unfoldable pub cipher : (ℕ → ℕ) → (ℕ → ℕ) → Block → Block
@@ -57,13 +65,16 @@ farEnd w i = P w (17 - i)
 
 -- a block of eight bytes, read big-endian
 abbrev pub blockOf : ℕ → Block
-blockOf x = record { left = x / 2 ^ 32; right = x % 2 ^ 32 }
+blockOf x = block (x / 2 ^ 32) (x % 2 ^ 32)
 
+-- its eight bytes as a number again
 abbrev pub numberOf : Block → ℕ
 numberOf b = b .left * 2 ^ 32 + b .right
 
+-- a block enciphered
 unfoldable pub encipherOf : List ℕ → ℕ → ℕ
 encipherOf w x = numberOf (cipher (F w) (P w) (blockOf x))
 
+-- and deciphered
 unfoldable pub decipherOf : List ℕ → ℕ → ℕ
 decipherOf w x = numberOf (cipher (F w) (farEnd w) (blockOf x))

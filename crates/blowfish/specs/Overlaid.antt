@@ -1,4 +1,4 @@
--- How the starting tables come into a key's words.
+-- How the starting tables come into a key's words: for contracts inside the crate alone.
 use mathlib.Core.Path.{_≡_}
 use mathlib.Core.List.{List}
 use Prim.Native.Nat.{ℕ}

@@ -3,9 +3,11 @@ use mathlib.Core.List.{List, [], _∷_}
 use Prim.Native.Nat.{ℕ, zero, suc, _-_, _*_, _/_, _%_}
 use lib.Bits.{bitXor}
 
+-- the polynomial, its bits in the reflected order
 abbrev pub polynomial : ℕ
 polynomial = 0xEDB88320
 
+-- the start, and what complements
 abbrev pub allOnes : ℕ
 allOnes = 0xFFFFFFFF
 

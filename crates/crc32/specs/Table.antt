@@ -1,4 +1,4 @@
--- What the code looks up, and the word that it feeds at once.
+-- What the code looks up, and the word that it feeds at once: for contracts inside the crate alone.
 use mathlib.Core.Path.{_≡_}
 use mathlib.Core.List.{List}
 use Prim.Native.Nat.{ℕ, _+_, _*_, _^_, _<_}

@@ -1,4 +1,4 @@
-// CRC-32 of a slice, four bytes at a time by a table of hex digits: a table of 512 bytes is copied fast at each call, and a larger one is not.
+// CRC-32 of a slice, four bytes at a time by a table of hex digits. The table is small since a constant is copied at each call.
 ghost use mathlib.Core.Path.{_≡_};
 ghost use Prim.Native.Nat.{_+_, _*_, _/_, _%_, _^_, _≤_, _<_};
 ghost use lib.ListN.{length, drop};

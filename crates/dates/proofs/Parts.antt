@@ -43,7 +43,6 @@ module _ (n : ℕ) where
   unfolding year month day
   put-together = omega arith
 
-  -- the first and the last date: a date has eight digits
   pub number-of-date : isDate n ≡ true → Numbered n
   unfolding dayNumber
   number-of-date e = rw e

@@ -5,13 +5,15 @@ use mathlib.Core.List.{List, [], _∷_}
 use lib.Dec.{leb, ltb, eqb}
 use lib.ListN.{getD, take}
 
--- the year, the month and the day of YYYYMMDD
+-- the year of YYYYMMDD
 unfoldable pub year : ℕ → ℕ
 year n = n / 10000
 
+-- its month
 unfoldable pub month : ℕ → ℕ
 month n = n / 100 % 100
 
+-- its day
 unfoldable pub day : ℕ → ℕ
 day n = n % 100
 

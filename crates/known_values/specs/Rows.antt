@@ -15,6 +15,7 @@ pub data Row : Type 0 where
   aDate : (given : ℕ) → Row
   leftAlone : (today expiry : ℕ) (left : ℤ) → Row
 
+-- the table
 abbrev pub rows : List Row
 rows =
     -- P1

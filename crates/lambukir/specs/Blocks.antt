@@ -10,8 +10,10 @@ use Rattle.lambukir.specs.declared.Block.{Block}
 unfoldable pub underKey : (List ℕ → ℕ → ℕ) → List ℕ → ℕ → Block
 underKey work key x = record { block = cond (isKey key) (work (schedule key) x) 0; number = keyNumber key }
 
+-- enciphered
 abbrev pub encipherBlock : List ℕ → ℕ → Block
 encipherBlock key x = underKey encipherOf key x
 
+-- deciphered
 abbrev pub decipherBlock : List ℕ → ℕ → Block
 decipherBlock key x = underKey decipherOf key x

@@ -26,7 +26,7 @@ returns-3 c =
     let args = started .before .before .before .before .args in
     let key = args .key .now in
     let good = taken key (args .words .now) (started .before .before .if1 .left) (started .before .if2 .left) in
-    (good .0, steps key (args .words .now) _ _ _ (started .start .ensures) (c .before .before .combine .ensures) (c .fill .ensures) ∙ good .1)
+    (good .0, steps key _ _ _ (started .start .ensures) (c .before .before .combine .ensures) (c .fill .ensures) ∙ good .1)
 
 pub key-schedule-spec : {M : Type 1} → statement M
 key-schedule-spec =
