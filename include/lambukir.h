@@ -6,6 +6,8 @@
 
    Every function takes every input and comes back. None allocates, and none
    keeps anything between calls, so threads may call them at the same time.
+   None wipes the stack: what a call worked with, a key's words among it, stays
+   there until something else is written over it.
 
    A slice is two arguments: a pointer to its first byte, and its length in
    bytes. The caller owns the bytes; they are read during the call and neither
