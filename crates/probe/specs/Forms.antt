@@ -1,8 +1,8 @@
 -- The numbers that stand for answers which C cannot take.
 use Rattle.dates.specs.declared.DaysLeft.{DaysLeft}
 use Rattle.dates.specs.declared.DaysLeft.the-variants.{Passed, Left}
-use Rattle.text.specs.declared.padding.Unpadded.{Unpadded}
-use Rattle.text.specs.declared.padding.Unpadded.the-variants.{Number, Wrong}
+use Rattle.text.specs.declared.numbers.Reading.{Reading}
+use Rattle.text.specs.declared.numbers.Reading.the-variants.{Number, Wrong}
 use Rattle.probe.specs.declared.ProbeDaysLeft.{ProbeDaysLeft}
 use Rattle.probe.specs.declared.ProbeUnpadded.{ProbeUnpadded}
 
@@ -12,6 +12,6 @@ daysForm (Passed n) = record { passed = 1; days = n }
 daysForm (Left n) = record { passed = 0; days = n }
 
 -- the number and 1, or twice 0 where the padding is wrong
-abbrev pub unpaddedForm : Unpadded → ProbeUnpadded
+abbrev pub unpaddedForm : Reading → ProbeUnpadded
 unpaddedForm (Number x) = record { value = x; right = 1 }
 unpaddedForm Wrong = record { value = 0; right = 0 }

@@ -194,12 +194,12 @@ pub extern "C" fn probe_pad40(x: u64) -> u64
     text::padding::pad40(x)
 }
 
-fn unpadded(u: text::padding::Unpadded) -> ProbeUnpadded
+fn unpadded(u: text::numbers::Reading) -> ProbeUnpadded
     ensures { λ r. ⌜ r ≡ unpaddedForm u ⌝ }
 {
     match u {
-        text::padding::Unpadded::Number(x) => ProbeUnpadded { value: x, right: 1 },
-        text::padding::Unpadded::Wrong => ProbeUnpadded { value: 0, right: 0 },
+        text::numbers::Reading::Number(x) => ProbeUnpadded { value: x, right: 1 },
+        text::numbers::Reading::Wrong => ProbeUnpadded { value: 0, right: 0 },
     }
 }
 

@@ -7,3 +7,9 @@ pub mod Notations
 pub mod Pads
 pub mod Inverses
 pub mod Places
+pub mod PlacedTexts
+pub mod LowDigits
+pub mod Numerals
+pub mod TextsAt
+pub mod SameTexts
+pub mod NumbersAt

@@ -14,7 +14,7 @@ use lib.Pow.{pow-add}
 use Rattle.text.specs.Numbers.{digits, bytesOf, numberOf}
 use Rattle.text.specs.Characters.{allOf}
 use Rattle.text.specs.Padding.{padded, padOf, isPadded, unpadOf}
-use Rattle.text.specs.declared.padding.Unpadded.the-variants.{Number, Wrong}
+use Rattle.text.specs.declared.numbers.Reading.the-variants.{Number, Wrong}
 use Rattle.text.proofs.Digits.{replicate-below, digits-length, value-digits, value-below, digits-value, value-append, digits-of-low, digits-drop}
 use Rattle.text.proofs.Every.{all-first, all-rest, all-more, either, same-tests}
 

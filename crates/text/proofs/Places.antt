@@ -23,7 +23,7 @@ module _ (n : ℕ) (s : List ℕ) (at : ℕ) where
   unfolding numberAt
   number-beyond h = rw (lt-leb (at + n) (length s) h)
 
-  part-length : at + n ≤ length s → length (take n (drop at s)) ≡ n
+  pub part-length : at + n ≤ length s → length (take n (drop at s)) ≡ n
   part-length h = length-take-le n (drop at s) (simp length-drop (omega arith))
 
 module _ (n : ℕ) (s : List ℕ) (at : ℕ) (below : Below 256 s) where

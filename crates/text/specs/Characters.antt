@@ -4,6 +4,8 @@ use mathlib.Core.List.{List, [], _∷_, map}
 use Prim.Native.Nat.{ℕ, _+_, _-_}
 use lib.Dec.{leb, ltb}
 use Rattle.text.specs.Numbers.{digits, value}
+use Rattle.text.specs.declared.characters.Alphabet.{Alphabet}
+use Rattle.text.specs.declared.characters.Alphabet.the-variants.{Digit, Hex, Name, Printable}
 
 -- c is one of the characters from low to high
 abbrev pub between : ℕ → ℕ → ℕ → Bool
@@ -24,6 +26,17 @@ isHex c = isUpperHex c
 -- A-Z 0-9
 unfoldable pub isNameCharacter : ℕ → Bool
 isNameCharacter c = isDigit c || between 65 90 c
+
+-- 20 to 7E hex: what a comment is made of
+unfoldable pub isPrintable : ℕ → Bool
+isPrintable c = between 32 126 c
+
+-- the test of each alphabet
+abbrev pub testOf : Alphabet → ℕ → Bool
+testOf Digit = isDigit
+testOf Hex = isHex
+testOf Name = isNameCharacter
+testOf Printable = isPrintable
 
 -- what a hex character stands for; 16 for a byte that is none
 unfoldable pub hexValue : ℕ → ℕ

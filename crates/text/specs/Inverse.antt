@@ -7,7 +7,7 @@ use lib.ListN.{length}
 use Rattle.text.specs.Numbers.{Below, bytesOf, numberOf}
 use Rattle.text.specs.Characters.{isDigit, isUpperHex, allOf, hexText, hexNumber, decimalText, decimalNumber}
 use Rattle.text.specs.Padding.{padOf, unpadOf}
-use Rattle.text.specs.declared.padding.Unpadded.the-variants.{Number}
+use Rattle.text.specs.declared.numbers.Reading.the-variants.{Number}
 
 -- the number of the hex text of a number is the number
 abbrev pub NumberOfHexText : Type 0

@@ -1,5 +1,6 @@
 pub mod Numbers
 pub mod Characters
 pub mod Places
+pub mod Texts
 pub mod Padding
 pub mod Inverse

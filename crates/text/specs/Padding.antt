@@ -6,8 +6,8 @@ use lib.Dec.{eqb}
 use lib.ListN.{length, drop, replicate}
 use Rattle.text.specs.Numbers.{bytesOf, numberOf}
 use Rattle.text.specs.Characters.{allOf}
-use Rattle.text.specs.declared.padding.Unpadded.{Unpadded}
-use Rattle.text.specs.declared.padding.Unpadded.the-variants.{Number, Wrong}
+use Rattle.text.specs.declared.numbers.Reading.{Reading}
+use Rattle.text.specs.declared.numbers.Reading.the-variants.{Number, Wrong}
 
 -- s filled up to 8 bytes with the count of bytes added
 unfoldable pub padded : List ℕ → List ℕ
@@ -22,5 +22,5 @@ unfoldable pub isPadded : ℕ → ℕ → Bool
 isPadded n block = allOf (λ (b : ℕ). eqb b (8 - n)) (drop n (bytesOf 8 block))
 
 -- the number of n bytes that the block was made of
-unfoldable pub unpadOf : ℕ → ℕ → Unpadded
+unfoldable pub unpadOf : ℕ → ℕ → Reading
 unpadOf n block = cond (isPadded n block) (Number (block / 256 ^ (8 - n))) Wrong

@@ -2,7 +2,15 @@
 ghost use mathlib.Core.Path.{_≡_};
 ghost use mathlib.Core.Bool.{_||_};
 ghost use Prim.Native.Nat.{_%_};
-ghost use Rattle.text.specs.Characters.{between, isDigit, isHex, isNameCharacter, hexValue, hexCharacter, digitValue, digitCharacter};
+ghost use Rattle.text.specs.Characters.{between, isDigit, isHex, isNameCharacter, isPrintable, testOf, hexValue, hexCharacter, digitValue, digitCharacter};
+
+// The alphabets that a text may be written in.
+pub enum Alphabet {
+    Digit,
+    Hex,
+    Name,
+    Printable,
+}
 
 // Whether c is one of the characters from low to high.
 fn within(low: u8, high: u8, c: u8) -> bool
@@ -37,6 +45,25 @@ pub fn is_name_character(c: u8) -> bool
     ensures { λ r. ⌜ r ≡ isNameCharacter c ⌝ }
 {
     is_digit_or_capital(b'Z', c)
+}
+
+// 20 to 7E hex.
+pub fn is_printable(c: u8) -> bool
+    ensures { λ r. ⌜ r ≡ isPrintable c ⌝ }
+{
+    within(b' ', b'~', c)
+}
+
+// Whether c is of the alphabet.
+pub fn is_of(alphabet: Alphabet, c: u8) -> bool
+    ensures { λ r. ⌜ r ≡ testOf alphabet c ⌝ }
+{
+    match alphabet {
+        Alphabet::Digit => is_digit(c),
+        Alphabet::Hex => is_hex(c),
+        Alphabet::Name => is_name_character(c),
+        Alphabet::Printable => is_printable(c),
+    }
 }
 
 // 0 to 15; 16 for a byte that is no hex character.

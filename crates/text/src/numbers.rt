@@ -6,8 +6,14 @@ ghost use lib.ListN.{length};
 ghost use Rattle.text.specs.Numbers.{bytesOf};
 ghost use Rattle.text.specs.Places.{numberAt};
 
+// A number that was read, or Wrong where the bytes are none.
+pub enum Reading {
+    Number(u64),
+    Wrong,
+}
+
 // Whether n bytes from place at lie within s.
-fn lies_within(s: &[u8], at: usize, n: usize) -> bool
+pub fn lies_within(s: &[u8], at: usize, n: usize) -> bool
     ensures { λ r. ⌜ r ≡ leb (at + n) (length (now (s .entry))) ⌝ }
 {
     at <= s.len() && n <= s.len() - at

@@ -1,12 +1,7 @@
 // A number of four or five bytes filled up to a block, and back.
 ghost use mathlib.Core.Path.{_≡_};
 ghost use Rattle.text.specs.Padding.{padOf, unpadOf};
-
-// What a block was made of; Wrong where its last bytes are not the padding.
-pub enum Unpadded {
-    Number(u64),
-    Wrong,
-}
+use super::numbers::Reading;
 
 // The block of the four bytes of x: four 04 are added.
 pub fn pad32(x: u32) -> u64
@@ -22,24 +17,24 @@ pub fn pad40(x: u64) -> u64
     x % 0x100_0000_0000 * 0x100_0000 + 0x03_0303
 }
 
-// The number of four bytes that the block was made of.
-pub fn unpad32(block: u64) -> Unpadded
+// The number of four bytes that the block was made of; Wrong where its last bytes are not the padding.
+pub fn unpad32(block: u64) -> Reading
     ensures { λ r. ⌜ r ≡ unpadOf 4 block ⌝ }
 {
     if block % 0x1_0000_0000 == 0x0404_0404 {
-        Unpadded::Number(block / 0x1_0000_0000)
+        Reading::Number(block / 0x1_0000_0000)
     } else {
-        Unpadded::Wrong
+        Reading::Wrong
     }
 }
 
-// The number of five bytes that the block was made of.
-pub fn unpad40(block: u64) -> Unpadded
+// The same of five bytes.
+pub fn unpad40(block: u64) -> Reading
     ensures { λ r. ⌜ r ≡ unpadOf 5 block ⌝ }
 {
     if block % 0x100_0000 == 0x03_0303 {
-        Unpadded::Number(block / 0x100_0000)
+        Reading::Number(block / 0x100_0000)
     } else {
-        Unpadded::Wrong
+        Reading::Wrong
     }
 }
