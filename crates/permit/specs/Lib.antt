@@ -1,0 +1,11 @@
+pub mod Order
+pub mod Identifiers
+pub mod Output
+pub mod Register
+pub mod UserPermit
+pub mod CellPermit
+pub mod DateText
+pub mod Line
+pub mod LineParts
+pub mod ReadBack
+pub mod OneCharacter

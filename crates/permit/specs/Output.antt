@@ -1,0 +1,26 @@
+-- What a call that writes gives: a text at the output's start, or a refusal that writes nothing.
+use mathlib.Core.List.{List, _++_}
+use Prim.Native.Nat.{ℕ}
+use lib.ListN.{length, drop}
+use Rattle.permit.specs.declared.Written.{Written}
+use Rattle.permit.specs.declared.Written.the-variants as written
+
+-- a text, or the number of the refusal
+pub data Output : Type 0 where
+  text : List ℕ → Output
+  refusal : ℕ → Output
+
+-- the answer: the text's length, or the refusal
+abbrev pub answerOf : Output → Written
+answerOf (text t) = written.Length (length t)
+answerOf (refusal n) = written.Refused n
+
+-- the lent output afterwards: the text at its start and nothing else, or as it was
+abbrev pub lentAfter : Output → List ℕ → List ℕ
+lentAfter (text t) out = t ++ drop (length t) out
+lentAfter (refusal n) out = out
+
+-- the answer's number: 0 for done
+abbrev pub numberOf : Written → ℕ
+numberOf (written.Length n) = 0
+numberOf (written.Refused n) = n
