@@ -1,0 +1,4 @@
+pub mod Lines
+pub mod Ends
+pub mod Steps
+pub mod Headers

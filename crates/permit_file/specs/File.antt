@@ -1,0 +1,103 @@
+-- A permit file, PERMIT.TXT: its header, its lines, and reading on from a place.
+use mathlib.Core.Bool.{Bool, cond, not, _&&_, _||_}
+use mathlib.Core.List.{List, [], _∷_}
+use Prim.Native.Nat.{ℕ, suc, _+_}
+use lib.Dec.{leb, ltb, eqb}
+use lib.ListN.{length, getD, drop}
+use Rattle.text.specs.Characters.{isDigit, decimalNumber}
+use Rattle.text.specs.Texts.{part, allAt, sameText, standsAt}
+use Rattle.permit.specs.Order.{demand}
+use Rattle.permit.specs.DateText.{isDateAt}
+use Rattle.permit.specs.CellPermit.{shipWords}
+use Rattle.permit.specs.Line.{readWith, givenNumber}
+use Rattle.permit.specs.declared.line.Line.{Line}
+use Rattle.permit.specs.declared.line.Line.the-variants as line
+use Rattle.permit_file.specs.declared.Cursor.{Cursor}
+use Rattle.permit_file.specs.declared.Opened.{Opened}
+use Rattle.permit_file.specs.declared.Opened.the-variants as opened
+use Rattle.permit_file.specs.declared.Step.{Step}
+use Rattle.permit_file.specs.declared.Step.the-variants.{Record, Refused, End}
+
+-- the cursor at a place
+abbrev pub cursor : ℕ → Cursor
+cursor place = record { place = place }
+
+-- how many bytes stand before the first CR LF; all where there is none
+unfoldable pub lineLength : List ℕ → ℕ
+lineLength [] = 0
+lineLength (c ∷ s) = cond (eqb c 13 && eqb (getD s 0 0) 10) 0 (suc (lineLength s))
+
+-- where the line that begins at a place ends: its CR LF, or the file's end
+unfoldable pub lineEnds : List ℕ → ℕ → ℕ
+lineEnds file place = place + lineLength (drop place file)
+
+-- the line that begins at a place, without its CR LF
+unfoldable pub lineAt : List ℕ → ℕ → List ℕ
+lineAt file place = part (lineLength (drop place file)) file place
+
+-- :ECS
+abbrev pub ecs : List ℕ
+ecs = 58 ∷ 69 ∷ 67 ∷ 83 ∷ []
+
+-- nothing is read at a place: the file ends there, or :ECS stands there, before CR LF or the file's end
+unfoldable pub endsAt : List ℕ → ℕ → Bool
+endsAt file place = eqb place (length file) || sameText (lineAt file place) ecs
+
+-- what a line's answer gives: it, with the next cursor
+abbrev pub onward : Line → Cursor → Step
+onward (line.Record r) next = Record r next
+onward (line.Refused n) next = Refused n next
+
+-- one step from a place, where read says what a line gives: 12 for a place beyond the file and for a line that no CR LF ends
+unfoldable pub stepBy : (List ℕ → Line) → List ℕ → ℕ → Step
+stepBy read file place =
+    demand (leb place (length file)) (Refused 12 (cursor (length file)))
+    (demand (not (endsAt file place)) (End (cursor place))
+    (demand (ltb (lineEnds file place) (length file)) (Refused 12 (cursor (length file)))
+    (onward (read (lineAt file place)) (cursor (lineEnds file place + 2)))))
+
+-- one step under the words of a ship
+abbrev pub stepWith : List ℕ → ℕ → ℕ → List ℕ → ℕ → Step
+stepWith words today days file place = stepBy (readWith words today days) file place
+
+-- one step: 18, 14 and 103 come first, and answer with the place that was given
+unfoldable pub stepOf : ℕ → ℕ → ℕ → List ℕ → ℕ → Step
+stepOf hw today days file place =
+    demand (eqb (givenNumber hw today days) 0) (Refused (givenNumber hw today days) (cursor place))
+    (stepWith (shipWords hw) today days file place)
+
+-- `:DATE ` with its blank
+abbrev pub headerStart : List ℕ
+headerStart = 58 ∷ 68 ∷ 65 ∷ 84 ∷ 69 ∷ 32 ∷ []
+
+-- what follows the time: CR LF, `:VERSION 2`, CR LF, `:ENC`, CR LF
+abbrev pub headerRest : List ℕ
+headerRest =
+    13 ∷ 10 ∷ 58 ∷ 86 ∷ 69 ∷ 82 ∷ 83 ∷ 73 ∷ 79 ∷ 78 ∷ 32 ∷ 50 ∷ 13 ∷ 10 ∷ 58 ∷ 69 ∷ 78 ∷ 67 ∷ 13 ∷ 10 ∷ []
+
+-- the two digits at a place are a number below a limit
+unfoldable pub isBelow : ℕ → List ℕ → ℕ → Bool
+isBelow limit file at = allAt isDigit 2 file at && ltb (decimalNumber (part 2 file at)) limit
+
+-- the header: `:DATE YYYYMMDD HH:MM`, a date and a time from 00:00 to 23:59, `:VERSION 2` and `:ENC`, each ended by CR LF
+unfoldable pub isHeader : List ℕ → Bool
+isHeader file =
+    standsAt headerStart file 0 && isDateAt file 6
+    && eqb (getD file 14 0) 32 && isBelow 24 file 15 && eqb (getD file 17 0) 58 && isBelow 60 file 18
+    && standsAt headerRest file 20
+
+-- the place of the first line after `:ENC`: the header has 40 bytes
+abbrev pub firstPlace : ℕ
+firstPlace = 40
+
+-- opening a file: 12 for the header, 11 where no line follows it
+unfoldable pub openOf : List ℕ → Opened
+openOf file =
+    demand (isHeader file) (opened.Refused 12)
+    (demand (not (endsAt file firstPlace)) (opened.Refused 11)
+    (opened.At (cursor firstPlace)))
+
+-- the number of an opening: 0 for a place
+abbrev pub openNumber : Opened → ℕ
+openNumber (opened.At c) = 0
+openNumber (opened.Refused n) = n

@@ -1,0 +1,131 @@
+// A permit file, PERMIT.TXT: opening it, and reading it line by line.
+ghost use mathlib.Core.Path.{_≡_};
+ghost use Prim.Native.Nat.{_≤_};
+ghost use lib.ListN.{length};
+ghost use Rattle.permit_file.specs.File.{lineEnds, endsAt, onward, stepWith, stepOf, openOf, openNumber};
+use permit::line::Line;
+
+mod header; // header.rt: the header's tests
+
+// The reader's place in a file.
+pub struct Cursor {
+    pub place: usize,
+}
+
+// What opening a file answers: the place of the first line after :ENC, or the refusal.
+pub enum Opened {
+    At(Cursor),
+    Refused(u32),
+}
+
+// What reading one line answers, with the next place inside.
+pub enum Step {
+    Record(permit::line::Record, Cursor),
+    Refused(u32, Cursor),
+    End(Cursor),
+}
+
+// The number of an opening: 0 for a place.
+pub fn open_number(opened: Opened) -> u32
+    ensures { λ r. ⌜ r ≡ openNumber opened ⌝ }
+{
+    match opened {
+        Opened::At(_) => 0,
+        Opened::Refused(n) => n,
+    }
+}
+
+// What a line's answer gives: it, with the next cursor.
+fn onward(line: Line, next: Cursor) -> Step
+    ensures { λ r. ⌜ r ≡ onward line next ⌝ }
+{
+    match line {
+        Line::Record(r) => Step::Record(r, next),
+        Line::Refused(n) => Step::Refused(n, next),
+    }
+}
+
+// Where the line that begins at a place ends: its CR LF, or the file's end. A byte beyond CR is passed together with the one before it.
+fn line_ends(file: &[u8], place: usize) -> usize
+    requires { ⌜ place ≤ length (now file) ⌝ }
+    ensures { λ r. ⌜ r ≡ lineEnds (now (file .entry)) place ⌝ }
+{
+    let mut i = place;
+    while 1 < file.len() - i {
+        if 13 < file[i + 1] {
+            i += 2;
+        } else {
+            if file[i] == 13 {
+                if file[i + 1] == 10 {
+                    return i;
+                }
+            }
+            i += 1;
+        }
+    }
+    file.len()
+}
+
+// Whether nothing is read at a place, whose line ends at end.
+fn ends_at(file: &[u8], place: usize, end: usize) -> bool
+    requires { ⌜ end ≡ lineEnds (now file) place ⌝ }
+    ensures { λ r. ⌜ r ≡ endsAt (now (file .entry)) place ⌝ }
+{
+    if place == file.len() {
+        return true;
+    }
+    if end - place != 4 {
+        return false;
+    }
+    text::reading::stands_at(b":ECS", file, place)
+}
+
+// Opening a file reads its header: the refusal, 12 and then 11, or the place of the first line after :ENC.
+pub fn open(file: &[u8]) -> Opened
+    ensures { λ r. ⌜ r ≡ openOf (now (file .entry)) ⌝ }
+{
+    if !header::is_header(file) {
+        return Opened::Refused(12);
+    }
+    let place: usize = 40;
+    if ends_at(file, place, line_ends(file, place)) {
+        return Opened::Refused(11);
+    }
+    Opened::At(Cursor { place })
+}
+
+impl Cursor {
+    // One step under the words of a ship: the line that begins at the cursor's place is read.
+    pub fn step_with(self, file: &[u8], words: &[u32; 1042], today: u32, days: u32) -> Step
+        ensures { λ r. ⌜ r ≡ stepWith (now (words .entry)) today days (now (file .entry)) (self .place) ⌝ }
+    {
+        let place = self.place;
+        let size = file.len();
+        if size < place {
+            return Step::Refused(12, Cursor { place: size });
+        }
+        let end = line_ends(file, place);
+        if ends_at(file, place, end) {
+            return Step::End(Cursor { place });
+        }
+        if end == size {
+            return Step::Refused(12, Cursor { place: size });
+        }
+        let line = permit::line::read_with(words, today, days, &file[place..end]);
+        onward(line, Cursor { place: end + 2 })
+    }
+
+    // One step. 18, 14 and 103 come first, and answer with the place that was given.
+    pub fn step(self, file: &[u8], hw: u64, today: u32, days: u32) -> Step
+        ensures { λ r. ⌜ r ≡ stepOf hw today days (now (file .entry)) (self .place) ⌝ }
+    {
+        let given = permit::line::given_number(hw, today, days);
+        let place = self.place;
+        if given != 0 {
+            return Step::Refused(given, Cursor { place });
+        }
+        let mut words = [0u32; 1042];
+        permit::line::ship_words(hw, &mut words);
+        Cursor { place }.step_with(file, &words, today, days)
+    }
+}
