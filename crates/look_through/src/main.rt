@@ -1,0 +1,45 @@
+// The look-through: reads standard input and writes its report.
+use libc::STDIN_FILENO;
+use libc::STDOUT_FILENO;
+use permit::Written;
+
+// Writes the first bytes of the output.
+fn write_start(out: &[u8], size: usize) {
+    if size <= out.len() {
+        io::write_all(STDOUT_FILENO, &out[..size]);
+    }
+}
+
+// Writes the report where its input asks for 32,768 bytes or fewer, and says whether it did.
+fn write_usual(input: &[u8]) -> bool {
+    let mut out = [0u8; 32768];
+    match report::look_through(input, &mut out) {
+        Written::Length(size) => {
+            write_start(&out, size);
+            true
+        }
+        Written::Refused(_) => false,
+    }
+}
+
+// Writes the report of any input: 600,000 bytes are always enough (the law room-enough), and clearing them takes long.
+fn write_any(input: &[u8]) {
+    let mut out = [0u8; 600000];
+    if let Written::Length(size) = report::look_through(input, &mut out) {
+        write_start(&out, size);
+    }
+}
+
+// The input has one byte more than is taken, so that one that is too long is seen to be.
+// Two calls of write_any: one that is called once is compiled into main, and then its large output is touched for every input.
+fn main() {
+    let mut input = [0u8; 65537];
+    let n = io::read_full(STDIN_FILENO, &mut input);
+    if 65536 < n {
+        write_any(&input[..n]);
+        return;
+    }
+    if !write_usual(&input[..n]) {
+        write_any(&input[..n]);
+    }
+}

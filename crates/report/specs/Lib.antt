@@ -1,0 +1,2 @@
+pub mod LookThrough
+pub mod Turns

@@ -1,0 +1,148 @@
+-- What the look-through program prints for what it reads.
+use mathlib.Core.Bool.{Bool, true, false, cond, _&&_}
+use mathlib.Core.List.{List, [], _∷_, _++_}
+use Prim.Native.Nat.{ℕ, zero, suc, _+_, _*_}
+use lib.Dec.{leb, eqb}
+use lib.ListN.{length, getD, drop, replicate}
+use Rattle.text.specs.Numbers.{bytesOf}
+use Rattle.text.specs.Characters.{isDigit, decimalNumber}
+use Rattle.text.specs.Places.{numberAt}
+use Rattle.text.specs.Texts.{part, allAt, standsAt, numeral}
+use Rattle.permit.specs.Order.{demand}
+use Rattle.permit.specs.Output.{Output, text, refusal}
+use Rattle.permit.specs.CellPermit.{shipWords, lineEnd}
+use Rattle.permit.specs.Line.{readWith, givenNumber, numberOf}
+use Rattle.permit.specs.declared.line.Line.{Line}
+use Rattle.permit.specs.declared.line.Line.the-variants as line
+use Rattle.permit_file.specs.File.{stepBy, firstPlace, openOf, openNumber}
+use Rattle.permit_file.specs.declared.Step.{Step}
+use Rattle.permit_file.specs.declared.Step.the-variants as step
+
+-- the first line, read by position: five bytes, a blank, eight bytes, a blank, two digits, CR LF
+unfoldable pub isFirstLine : List ℕ → Bool
+isFirstLine input =
+    eqb (getD input 5 0) 32 && eqb (getD input 14 0) 32 && allAt isDigit 2 input 15 && standsAt lineEnd input 17
+
+-- its HW_ID
+abbrev pub hwOf : List ℕ → ℕ
+hwOf input = numberAt 5 input 0
+
+-- its today; 0, which is no date, where the eight bytes are not all digits
+unfoldable pub todayOf : List ℕ → ℕ
+todayOf input = cond (allAt isDigit 8 input 6) (decimalNumber (part 8 input 6)) 0
+
+-- its warning days
+abbrev pub daysOf : List ℕ → ℕ
+daysOf input = decimalNumber (part 2 input 15)
+
+-- the file after it
+abbrev pub fileOf : List ℕ → List ℕ
+fileOf input = drop 19 input
+
+-- a refusal, or what comes next where there is none
+abbrev pub orElse : ℕ → ℕ → ℕ
+orElse number next = demand (eqb number 0) number next
+
+-- why nothing is listed: 103 for too many bytes or the first line's shape, then 18, 14, 103, then 12 for the header and 11; 0 where it is
+unfoldable pub startNumber : List ℕ → ℕ
+startNumber input =
+    demand (leb (length input) 65536) 103
+    (demand (isFirstLine input) 103
+    (orElse (givenNumber (hwOf input) (todayOf input) (daysOf input))
+    (openNumber (openOf (fileOf input)))))
+
+-- what follows a step: its answer and the answers from the next place on, or nothing
+abbrev pub following : (ℕ → List Line) → Step → List Line
+following from (step.Record r c) = line.Record r ∷ from (c .place)
+following from (step.Refused n c) = line.Refused n ∷ from (c .place)
+following from (step.End c) = []
+
+-- the answers of the lines from a place on, n lines at most
+unfoldable pub answersFrom : (List ℕ → Line) → List ℕ → ℕ → ℕ → List Line
+answersFrom read file zero place = []
+answersFrom read file (suc n) place = following (answersFrom read file n) (stepBy read file place)
+
+-- the answers of the ENC lines: a file has no more lines than bytes
+unfoldable pub encAnswers : (List ℕ → Line) → List ℕ → List Line
+encAnswers read file = answersFrom read file (length file) firstPlace
+
+-- the answers for an input
+unfoldable pub answersOf : List ℕ → List Line
+answersOf input = encAnswers (readWith (shipWords (hwOf input)) (todayOf input) (daysOf input)) (fileOf input)
+
+-- the cell name; eight hyphens when refused
+abbrev pub nameOf : Line → List ℕ
+nameOf (line.Record r) = bytesOf 8 (r .name)
+nameOf (line.Refused n) = replicate 8 45
+
+-- a line's row: its count, its number, the cell name, LF
+unfoldable pub rowOf : ℕ → Line → List ℕ
+rowOf count a = numeral count ++ ((32 ∷ numeral (numberOf a)) ++ ((32 ∷ nameOf a) ++ (10 ∷ [])))
+
+-- the rows of the answers, counted on from a number
+unfoldable pub rowsFrom : ℕ → List Line → List ℕ
+rowsFrom count [] = []
+rowsFrom count (a ∷ answers) = rowOf count a ++ rowsFrom (suc count) answers
+
+-- a record with a notice of this number: current 0, soon 20, expired 15
+abbrev pub isNoticed : ℕ → Line → Bool
+isNoticed number (line.Record r) = eqb (numberOf (line.Record r)) number
+isNoticed number (line.Refused n) = false
+
+-- a refused line
+abbrev pub isRefused : Line → Bool
+isRefused (line.Record r) = false
+isRefused (line.Refused n) = true
+
+-- how many answers pass a test
+unfoldable pub countOf : (Line → Bool) → List Line → ℕ
+countOf test [] = 0
+countOf test (a ∷ answers) = cond (test a) (suc (countOf test answers)) (countOf test answers)
+
+-- `records `, ` current `, ` soon `, ` expired `, ` refused `
+abbrev pub recordsWord : List ℕ
+recordsWord = 114 ∷ 101 ∷ 99 ∷ 111 ∷ 114 ∷ 100 ∷ 115 ∷ 32 ∷ []
+
+abbrev pub currentWord : List ℕ
+currentWord = 32 ∷ 99 ∷ 117 ∷ 114 ∷ 114 ∷ 101 ∷ 110 ∷ 116 ∷ 32 ∷ []
+
+abbrev pub soonWord : List ℕ
+soonWord = 32 ∷ 115 ∷ 111 ∷ 111 ∷ 110 ∷ 32 ∷ []
+
+abbrev pub expiredWord : List ℕ
+expiredWord = 32 ∷ 101 ∷ 120 ∷ 112 ∷ 105 ∷ 114 ∷ 101 ∷ 100 ∷ 32 ∷ []
+
+abbrev pub refusedWord : List ℕ
+refusedWord = 32 ∷ 114 ∷ 101 ∷ 102 ∷ 117 ∷ 115 ∷ 101 ∷ 100 ∷ 32 ∷ []
+
+-- the totals by kind: each is the number of ENC lines of that kind
+unfoldable pub totalsOf : List Line → List ℕ
+totalsOf answers =
+    (recordsWord ++ numeral (length answers))
+    ++ ((currentWord ++ numeral (countOf (isNoticed 0) answers))
+    ++ ((soonWord ++ numeral (countOf (isNoticed 20) answers))
+    ++ ((expiredWord ++ numeral (countOf (isNoticed 15) answers))
+    ++ ((refusedWord ++ numeral (countOf isRefused answers)) ++ (10 ∷ [])))))
+
+-- `refused ` with the number, LF
+unfoldable pub refusedText : ℕ → List ℕ
+refusedText number = drop 1 refusedWord ++ (numeral number ++ (10 ∷ []))
+
+-- all that is printed
+unfoldable pub report : List ℕ → List ℕ
+report input =
+    demand (eqb (startNumber input) 0) (refusedText (startNumber input))
+    (rowsFrom 1 (answersOf input) ++ totalsOf (answersOf input))
+
+-- how many CR LFs a list has
+unfoldable pub lineEndsIn : List ℕ → ℕ
+lineEndsIn [] = 0
+lineEndsIn (c ∷ s) = cond (eqb c 13 && eqb (getD s 0 0) 10) (suc (lineEndsIn s)) (lineEndsIn s)
+
+-- room that is enough for the report of an input: 18 bytes for each CR LF and for a line that none ends, and 100; one that is too long is only refused
+unfoldable pub roomFor : List ℕ → ℕ
+roomFor input = cond (leb (length input) 65536) (18 * lineEndsIn input + 118) 118
+
+-- the report into an output of so many bytes: 108 where it has not that room
+unfoldable pub reported : List ℕ → ℕ → Output
+reported input room = demand (leb (roomFor input) room) (refusal 108) (text (report input))
