@@ -3,6 +3,11 @@ use mathlib.Core.Path.{refl}
 use lib.IntN.{pos}
 use Rattle.dates.specs.Calendar.{year, month, day, isLeap, monthLengths, daysIn, within, isDate, multiplesBelow, daysBeforeYear, sum, daysBeforeMonth, dayNumber}
 use Rattle.dates.specs.Notice.{daysLeft, noticeOf}
+use Rattle.text.specs.Numbers.{digits}
+use Rattle.text.specs.Characters.{isDigit, isUpperHex, hexCharacter, allOf}
+use Rattle.permit.specs.Identifiers.{isText, hwId6}
+use Rattle.permit.specs.UserPermit.{mIdPart}
+use Rattle.permit.specs.Line.{givenNumber}
 use Rattle.dates.proofs.Left.{same-day}
 use Rattle.known_values.specs.Rows.{Holds, EachHolds, rows, sameDay}
 
@@ -14,9 +19,9 @@ infixr 5 _and_
 _and_ : {A B : Type 0} → A → B → A × B
 a and b = (a, b)
 
--- P1 to P8, in the table's order: antt computes all but P5
+-- P1 to P11, in the table's order: antt computes all but P5
 pub known : EachHolds rows
-unfolding year month day isLeap monthLengths daysIn within isDate multiplesBelow daysBeforeYear sum daysBeforeMonth dayNumber daysLeft noticeOf
+unfolding year month day isLeap monthLengths daysIn within isDate multiplesBelow daysBeforeYear sum daysBeforeMonth dayNumber daysLeft noticeOf digits hexCharacter isDigit isUpperHex allOf isText hwId6 mIdPart givenNumber
 known =
     (refl, refl)
     and (refl, refl)
@@ -26,4 +31,7 @@ known =
     and refl
     and refl
     and refl
+    and refl
+    and refl
+    and (λ today days. refl)
     and tt

@@ -6,6 +6,9 @@ use mathlib.Core.List.{List, [], _∷_}
 use lib.IntN.{ℤ, pos, negℤ}
 use Rattle.dates.specs.Calendar.{isDate}
 use Rattle.dates.specs.Notice.{daysLeft, noticeOf, numberOf}
+use Rattle.permit.specs.Identifiers.{hwId6}
+use Rattle.permit.specs.UserPermit.{mIdPart}
+use Rattle.permit.specs.Line.{givenNumber}
 
 -- the kinds of rows, with what is given and then the result
 pub data Row : Type 0 where
@@ -14,6 +17,9 @@ pub data Row : Type 0 where
   noDate : (given : ℕ) → Row
   aDate : (given : ℕ) → Row
   leftAlone : (today expiry : ℕ) (left : ℤ) → Row
+  sixBytes : (given : ℕ) (hwId6 : List ℕ) → Row
+  inHex : (given : ℕ) (characters : List ℕ) → Row
+  refusedHwId : (given : ℕ) (number : ℕ) → Row
 
 -- the table
 abbrev pub rows : List Row
@@ -34,19 +40,28 @@ rows =
     ∷ aDate 20000229
     -- P8
     ∷ leftAlone 19000101 29991231 (pos 401766)
+    -- P9: A79AB, and A79ABA
+    ∷ sixBytes 0x4137394142 (65 ∷ 55 ∷ 57 ∷ 65 ∷ 66 ∷ 65 ∷ [])
+    -- P10: AB, and 4142
+    ∷ inHex 0x4142 (52 ∷ 49 ∷ 52 ∷ 50 ∷ [])
+    -- P11: 1234G
+    ∷ refusedHwId 0x3132333447 18
     ∷ []
 
 -- the number that comes back for an expiry, at 30 warning days
 abbrev pub numberAt30 : ℕ → ℕ → ℕ
 numberAt30 today expiry = numberOf (noticeOf (daysLeft today expiry) 30)
 
--- what a row says; that of the same day is for every day
+-- what a row says; that of the same day is for every day, that of the refused HW_ID for every today and every warning days
 abbrev pub Holds : Row → Type 0
 Holds (leftAndNumber today expiry left number) = (daysLeft today expiry ≡ left) × (numberAt30 today expiry ≡ number)
 Holds (sameDay left number) = (today : ℕ) → (daysLeft today today ≡ left) × (numberAt30 today today ≡ number)
 Holds (noDate given) = isDate given ≡ false
 Holds (aDate given) = isDate given ≡ true
 Holds (leftAlone today expiry left) = daysLeft today expiry ≡ left
+Holds (sixBytes given bytes) = hwId6 given ≡ bytes
+Holds (inHex given characters) = mIdPart given ≡ characters
+Holds (refusedHwId given number) = (today days : ℕ) → givenNumber given today days ≡ number
 
 -- each row of a list holds
 abbrev pub EachHolds : List Row → Type 0
