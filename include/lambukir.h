@@ -1,6 +1,7 @@
 /* lambukir.h
 
-   Lambukir for C: the cipher and the checksum of S-63 permits.
+   Lambukir for C: S-63 user permits, cell permits and PERMIT.TXT files, with
+   the cipher and the checksum that they are made of.
 
    Link with liblambukir.a. It needs the C library and nothing else.
 
@@ -9,14 +10,89 @@
    None wipes the stack: what a call worked with, a key's words among it, stays
    there until something else is written over it.
 
+   Slices
+
    A slice is two arguments: a pointer to its first byte, and its length in
-   bytes. The caller owns the bytes; they are read during the call and neither
-   written nor kept. The pointer is not NULL, not even where the length is 0.
+   bytes. The caller owns the bytes, before and after. A call reads them, writes
+   none but those of a slice named out, and keeps no pointer. Slices lent to one
+   call do not overlap. The pointer is not NULL, not even where the length is 0.
+   Texts have no NUL at their end; a NUL is a byte like any other.
 
-   The numbers that come back:
+   Values
 
-     0    done
-     103  a given value is out of its range; each function says which */
+   An identifier is a number: its ASCII bytes, the first at the top. HW_ID
+   "12348" is 0x3132333438, M_ID "01" is 0x3031, cell name "NO4D0613" is
+   0x4E4F344430363133, Data Server ID "GB" is 0x4742. A cell key is any five
+   bytes, likewise: C1 CB 51 8E 9C is 0xC1CB518E9C. Any other number is no
+   identifier, and is refused as a bad text would be.
+
+     HW_ID, M_KEY     five of 0-9 A-F
+     M_ID, server     two of A-Z 0-9; server is a Data Server ID
+     cell name        eight of A-Z 0-9
+     level            0 subscription, 1 single purchase
+     edition          1 to 999
+
+   A date is the number YYYYMMDD: 20240229. It is a day of the calendar of the
+   years 1900 to 2999, or it is no date.
+
+   The numbers that come back
+
+     0    done; or a record, and its permit is current
+     11   the file has a good header and no line in its ENC part
+     12   line, header or place of a wrong shape, or the expiry is no date
+     13   the check part is wrong for this HW_ID
+     14   today is no date
+     15   a record, and its permit has expired
+     17   the user permit's CRC is wrong
+     18   the HW_ID, given or deciphered from a user permit, is none
+     20   a record, and its permit expires soon
+     21   the check part is right, but a key is wrongly padded
+     103  another given value is out of its range; each function says which
+     106  the user permit is not 28 of 0-9 A-F
+     107  the M_ID is not in the register
+     108  out is too short: less than 28 bytes (user permit) or 76 (line)
+     109  the register is damaged
+
+   0, 15 and 20 are success. Each other number is a refusal: every lent byte is
+   as it was, and every field of the answer but number (and, for a file's line,
+   next) is 0. Where there is more than one reason to refuse, the number is the
+   first of the order that stands with the function.
+
+   Example: make a user permit, and read a file to its end. It prints
+   73871727080876A07E450C043031, and then 20 20000830.
+
+     #include <inttypes.h>
+     #include <lambukir.h>
+     #include <stdio.h>
+
+     static const char reg[] = "0198765"; // M_ID 01, M_KEY 98765
+     static const char file[] =
+       ":DATE 20000801 11:11\r\n:VERSION 2\r\n:ENC\r\n"
+       "NO4D061320000830BEB9BFE3C7C6CE68B16411FD09F96982795C77B204F54D48"
+       ",0,5,GB,\r\n:ECS\r\n";
+
+     int main(void)
+     {
+       const uint64_t hw_id = 0x3132333438;
+       uint8_t permit[28];
+       if (lambukir_make_user_permit((const uint8_t *)reg, 7, hw_id, 0x3031,
+                                     permit, sizeof permit) == 0)
+         printf("%.28s\n", (const char *)permit);
+
+       const uint8_t *bytes = (const uint8_t *)file;
+       size_t length = sizeof file - 1;
+       lambukir_place start = lambukir_open_file(bytes, length);
+       lambukir_file_line line = { .next = start.place };
+       while (start.number == 0) {
+         size_t place = line.next;
+         line = lambukir_read_file_line(hw_id, 20000801, 30, bytes, length,
+                                        place);
+         if (line.next == place)
+           break; // the end, or 18, 14 or 103
+         printf("%" PRIu32 " %" PRIu32 "\n", line.number, line.expiry);
+       }
+       return line.at_end ? 0 : 1;
+     } */
 
 #ifndef LAMBUKIR_H_INCLUDED
 #define LAMBUKIR_H_INCLUDED
@@ -27,6 +103,164 @@
 #ifdef __cplusplus
 extern "C" {
 #endif
+
+/* User permits
+
+   A register (reg) says which M_KEY an M_ID has: 0 to 256 entries of seven
+   bytes, the M_ID and then the M_KEY as text, strictly rising by M_ID in the
+   order of the bytes (digits before letters). One that is longer than 1,792
+   bytes, is no multiple of 7, has another character or another order is 109. */
+
+/* Writes the user permit of a HW_ID to the first 28 bytes of out, and answers
+   0. The bytes after them stay as they were.
+
+   Refusals, in this order: 109; 108, out has less than 28 bytes; 18; 107. */
+uint32_t
+lambukir_make_user_permit(const uint8_t *reg, size_t reg_length,
+                          uint64_t hw_id, uint32_t m_id,
+                          uint8_t *out, size_t out_length);
+
+typedef struct {
+  uint64_t hw_id;
+  uint32_t m_id;
+  uint32_t number;
+} lambukir_user_permit;
+
+/* Reads a user permit: its HW_ID and its M_ID, and number 0.
+
+   Refusals, in this order: 109, 106, 17, 107, 18. */
+lambukir_user_permit
+lambukir_read_user_permit(const uint8_t *reg, size_t reg_length,
+                          const uint8_t *permit, size_t permit_length);
+
+/* Permit lines
+
+   A line is, with commas between: a cell permit of 64 characters, service
+   level, edition, Data Server ID, comment. It has at most 160 bytes, CR LF not
+   counted. No field but the edition and the comment may be empty. */
+
+/* A record: cell name, both cell keys, expiry, service level, edition (0 where
+   it is blank) and Data Server ID. Its number is the notice:
+
+     15  today is after the expiry
+     20  less than the given days are left; none, on the expiry itself
+     0   otherwise */
+typedef struct {
+  uint64_t name;
+  uint64_t key_one;
+  uint64_t key_two;
+  uint32_t expiry;
+  uint32_t level;
+  uint32_t edition;
+  uint32_t server;
+  uint32_t number;
+} lambukir_line;
+
+/* Reads one line, given without its CR LF, for the HW_ID it was made for. days
+   is the warning days, 1 to 90.
+
+   Refusals, in this order: 18; 14; 103, days; 12; 13; 21. */
+lambukir_line
+lambukir_read_line(uint64_t hw_id, uint32_t today, uint32_t days,
+                   const uint8_t *line, size_t line_length);
+
+/* A part of a slice: length bytes from the place start, counted from 0. */
+typedef struct {
+  uint64_t start;
+  uint64_t length;
+} lambukir_part;
+
+/* The comment of a line, given without its CR LF: all that follows the fourth
+   comma, further commas included. It is told as a part of the caller's own
+   bytes, and nothing is copied: the comment begins at line + start.
+
+   No HW_ID is needed, so the check part and the keys are not looked at. There
+   is no refusal: a line that would give 12 has the empty part, start and length
+   both 0. (Length 0 is also right for a line with an empty comment; its start
+   is then the line's length.) */
+lambukir_part
+lambukir_comment(const uint8_t *line, size_t line_length);
+
+/* The bytes that were written at the start of out, CR LF included. */
+typedef struct {
+  uint64_t length;
+  uint32_t number;
+} lambukir_written;
+
+/* Writes a line for a HW_ID to the start of out: the cell permit, service
+   level, edition, Data Server ID, an empty comment, and CR LF. The line has 74
+   to 76 bytes; those after it stay as they were.
+
+   Refusals, in this order: 108, out has less than 76 bytes, however short the
+   line; 103, name, expiry, a key, level, edition or server is none; 18. */
+lambukir_written
+lambukir_write_line(uint64_t hw_id, uint64_t name, uint32_t expiry,
+                    uint64_t key_one, uint64_t key_two,
+                    uint32_t level, uint32_t edition, uint32_t server,
+                    uint8_t *out, size_t out_length);
+
+/* PERMIT.TXT files
+
+   A file is a slice that holds all of it, and is read line by line: open_file
+   tells the place of the first line, and each answer of read_file_line the
+   place of the next. Nothing is open in between, and nothing is to be closed.
+   Places are counted in bytes from 0, at the file's first. */
+
+typedef struct {
+  uint64_t place;
+  uint32_t number;
+} lambukir_place;
+
+/* Reads the header, which is exactly three lines, each ended by CR LF:
+
+     :DATE YYYYMMDD HH:MM
+     :VERSION 2
+     :ENC
+
+   and answers the place of the first line after it. The date is a date, the
+   time 00:00 to 23:59.
+
+   Refusals, in this order: 12, the header is not so; 11, nothing follows it, or
+   :ECS does at once. */
+lambukir_place
+lambukir_open_file(const uint8_t *file, size_t file_length);
+
+/* A record as lambukir_line has it, a refusal, or the end; and where to read
+   on. at_end is 1 at the end and 0 else. */
+typedef struct {
+  uint64_t name;
+  uint64_t key_one;
+  uint64_t key_two;
+  uint64_t next;
+  uint32_t expiry;
+  uint32_t level;
+  uint32_t edition;
+  uint32_t server;
+  uint32_t number;
+  uint32_t at_end;
+} lambukir_file_line;
+
+/* Reads the line that begins at a place. It ends before the next CR LF. Any
+   place is read from as a line's start, whether a line begins there or not.
+
+   The end is where the place is the file's length, or where the line is :ECS,
+   ended by CR LF or by the file. Then at_end is 1, number 0, next the place
+   that was given, and every other field 0.
+
+   Refusals, in this order: 18; 14; 103, days is not 1 to 90; then, where it is
+   not the end, 12; 13; 21. 12 is given too for a line without CR LF and for a
+   place beyond the file.
+
+   next is, after a record and after 12, 13 and 21, the place after the line's
+   CR LF, or the file's length where there is none. So a bad line does not stop
+   the reading. At the end and after 18, 14 and 103 it is the place that was
+   given: whoever reads on from there gets the same answer for ever. No other
+   answer gives that place back. */
+lambukir_file_line
+lambukir_read_file_line(uint64_t hw_id, uint32_t today, uint32_t days,
+                        const uint8_t *file, size_t file_length, size_t place);
+
+/* The checksum and the cipher */
 
 /* CRC-32 as S-63, zlib and Ethernet have it: reflected, polynomial EDB88320
    hex, start all ones, final complement. The nine characters 123456789 give

@@ -3,6 +3,9 @@ ghost use mathlib.Core.Path.{_≡_};
 ghost use Rattle.crc32.specs.Crc32.{crc32Of};
 ghost use Rattle.lambukir.specs.Blocks.{encipherBlock, decipherBlock};
 
+pub mod files; // files.rt: permit files
+pub mod permits; // permits.rt: user permits and lines
+
 // A block of eight bytes, and 0; at 103, for a key that has not 4 to 56 bytes, the block is 0.
 #[repr(C)]
 pub struct Block {
