@@ -1,23 +1,28 @@
-# make run    prove and run the program of published vectors
-# make test   the whole gate: every proof, then the comparisons with programs of others
-# make bench  our cipher and checksum beside OpenSSL's and zlib's
-# make lib    target/staticlib/liblambukir.a and target/include/lambukir.h, for C
+# make run      prove the look-through and run it on the sample PERMIT.TXT
+# make test     the whole gate: every proof, then the comparisons with programs of others
+# make bench    our cipher, checksum, permits and look-through beside OpenSSL's, zlib's and plain C
+# make lib      target/staticlib/liblambukir.a and target/include/lambukir.h, for C
+# make install  the library, its header and its pkg-config file below PREFIX, or below DESTDIR and PREFIX
 
 CC = gcc
 CFLAGS = -std=c11 -O2 -Wall -Wextra -Werror
 LDLIBS = target/staticlib/liblambukir.a target/staticlib/libprobe.a -lcrypto -lz
+PREFIX = /usr/local
+VERSION = 0.3.0
 
-.PHONY: run test bench lib probe comparisons
+COMPARISONS = blowfish crc32 dates files lines look_through permits text writing
+MODEL = target/tests/model.o target/tests/model_file.o
+
+.PHONY: run test bench lib install packages probe look_through comparisons
 .NOTPARALLEL:
 
-run:
-	rt check vectors_cipher
-	target/bin/vectors_cipher
+run: look_through
+	@sample/look_through
 
 test:
 	@tests/run
 
-bench: target/bench/bench
+bench: target/bench/bench target/bench/look_through
 	target/bench/bench
 
 lib:
@@ -25,17 +30,39 @@ lib:
 	mkdir -p target/include
 	cp include/lambukir.h target/include/lambukir.h
 
+install: lib
+	install -d '$(DESTDIR)$(PREFIX)/include' '$(DESTDIR)$(PREFIX)/lib/pkgconfig'
+	install -m 644 include/lambukir.h '$(DESTDIR)$(PREFIX)/include/lambukir.h'
+	install -m 644 target/staticlib/liblambukir.a '$(DESTDIR)$(PREFIX)/lib/liblambukir.a'
+	printf '%s\n' 'prefix=$(PREFIX)' 'includedir=$${prefix}/include' 'libdir=$${prefix}/lib' '' \
+		'Name: lambukir' 'Description: S-63 user permits, cell permits and PERMIT.TXT files' 'Version: $(VERSION)' \
+		'Cflags: -I$${includedir}' 'Libs: -L$${libdir} -llambukir' >'$(DESTDIR)$(PREFIX)/lib/pkgconfig/lambukir.pc'
+
+# what the comparisons and the benchmark need of others
+packages:
+	tests/packages
+
 # the leaf functions, for the comparisons and the benchmark alone
 probe:
 	rt staticlib probe
 
-comparisons: $(patsubst tests/%.c,target/tests/%,$(wildcard tests/*.c))
+look_through:
+	rt check look_through
 
-target/tests/%: tests/%.c $(wildcard tests/*.h) lib probe
-	mkdir -p $(@D)
-	$(CC) $(CFLAGS) -Itarget/include -o $@ $< $(LDLIBS)
+comparisons: $(COMPARISONS:%=target/tests/%)
 
-target/bench/bench: bench/bench.c tests/probe.h lib probe
-	tests/packages
+target/tests/%.o: tests/%.c $(wildcard tests/*.h) packages lib
 	mkdir -p $(@D)
-	$(CC) $(CFLAGS) -Itarget/include -Itests -o $@ $< $(LDLIBS)
+	$(CC) $(CFLAGS) -Itarget/include -c -o $@ $<
+
+target/tests/%: tests/%.c $(wildcard tests/*.h) $(MODEL) lib probe
+	$(CC) $(CFLAGS) -Itarget/include -o $@ $< $(MODEL) $(LDLIBS)
+
+target/bench/bench: bench/bench.c $(wildcard bench/*.h tests/*.h) $(MODEL) lib probe look_through
+	mkdir -p $(@D)
+	$(CC) $(CFLAGS) -Itarget/include -Itests -o $@ $< $(MODEL) $(LDLIBS)
+
+# with OpenSSL and zlib in it, so that both programs load the C library and nothing else
+target/bench/look_through: bench/look_through.c $(MODEL) lib
+	mkdir -p $(@D)
+	$(CC) $(CFLAGS) -Itarget/include -Itests -o $@ $< $(MODEL) -Wl,-Bstatic -lcrypto -lz -Wl,-Bdynamic

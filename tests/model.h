@@ -1,0 +1,27 @@
+/* A plain model of 01's rules in C, over OpenSSL's Blowfish and zlib's CRC-32. The comparisons hold the library and the look-through
+   program against it; the benchmark measures them beside it. */
+#ifndef MODEL_H
+#define MODEL_H
+
+#include "lambukir.h"
+
+/* The calls of lambukir.h, with the same arguments and answers. */
+uint32_t model_make_user_permit(const uint8_t *reg, size_t reg_length, uint64_t hw_id, uint32_t m_id, uint8_t *out, size_t out_length);
+lambukir_user_permit model_read_user_permit(const uint8_t *reg, size_t reg_length, const uint8_t *permit, size_t permit_length);
+lambukir_line model_read_line(uint64_t hw_id, uint32_t today, uint32_t days, const uint8_t *line, size_t line_length);
+lambukir_part model_comment(const uint8_t *line, size_t line_length);
+lambukir_written model_write_line(uint64_t hw_id, uint64_t name, uint32_t expiry, uint64_t key_one, uint64_t key_two, uint32_t level,
+                                  uint32_t edition, uint32_t server, uint8_t *out, size_t out_length);
+lambukir_place model_open_file(const uint8_t *file, size_t file_length);
+lambukir_file_line model_read_file_line(uint64_t hw_id, uint32_t today, uint32_t days, const uint8_t *file, size_t file_length, size_t place);
+
+/* The look-through: what it prints for an input, and how long that is. The key is set up once for the file. */
+#define MODEL_INPUT 65536 /* the longest input that is not refused */
+#define MODEL_REPORT 600000 /* more than the longest report: 32,739 lines of 18 bytes, and the totals */
+size_t model_look_through(const uint8_t *input, size_t length, uint8_t *report);
+
+/* Permits with a right CRC over blocks of any kind, to make those that are refused for what is in a block. */
+void model_user_permit_of(const uint8_t *m_key, uint64_t block, uint32_t m_id, uint8_t out[28]);
+void model_cell_permit_of(uint64_t hw_id, uint64_t name, uint32_t expiry, uint64_t block_one, uint64_t block_two, uint8_t out[64]);
+
+#endif
