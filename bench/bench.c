@@ -1,29 +1,27 @@
-/* Our cipher and checksum beside OpenSSL's and zlib's, in one run: the time of one call in ns, and ours over theirs.
+/* Ours beside OpenSSL's, zlib's and plain C over them, in one run: the time of one call in ns, and ours over theirs.
 
    Each line measures one call on both sides, as a caller would make it:
      key schedule  a key of 6 bytes, another one each time, into a schedule of 1042 words
      encipher      one block with a ready schedule; what comes out goes into the next call
      decipher      the same
      CRC-32        48 bytes, as of a cell permit, another 48 each time
+     permits       the calls of lambukir.h beside the model's of tests/, see permits.h
+     look-through  the program beside bench/look_through.c, each a process of its own: from before its start until it has ended;
+                   both load the C library and nothing else, since OpenSSL and zlib are linked into the C program
 
-   Both sides take turns in many short rounds, each side first in half of them, and the best round of each counts: what else the
-   machine does can only make a round longer. Every answer goes into a sum that is looked at in the end. */
-#define _POSIX_C_SOURCE 199309L
+   Every answer goes into a sum that is looked at in the end. */
+#define _DEFAULT_SOURCE
 #define OPENSSL_SUPPRESS_DEPRECATED
 #include <openssl/blowfish.h>
-#include <stdio.h>
-#include <string.h>
-#include <time.h>
 #include <zlib.h>
 
-#include "lambukir.h"
+#include "measure.h"
+#include "permits.h"
 #include "probe.h"
 
-#define ROUNDS 400
 #define TEXT 48
 #define TEXTS 64
 
-static uint64_t sum;
 static uint8_t key[6] = {'1', '2', '3', '4', '8', '1'};
 static uint8_t texts[TEXTS * TEXT];
 static uint32_t words[SCHEDULE_WORDS];
@@ -93,29 +91,6 @@ static void their_crc32(int calls)
         sum += crc32(0, texts + i % TEXTS * TEXT, TEXT);
 }
 
-static double nanoseconds(void (*run)(int), int calls)
-{
-    struct timespec from, to;
-    clock_gettime(CLOCK_MONOTONIC, &from);
-    run(calls);
-    clock_gettime(CLOCK_MONOTONIC, &to);
-    return ((double)(to.tv_sec - from.tv_sec) * 1e9 + (double)(to.tv_nsec - from.tv_nsec)) / calls;
-}
-
-static void measure(const char *name, void (*ours)(int), void (*theirs)(int), const char *whose, int calls)
-{
-    void (*sides[2])(int) = {ours, theirs};
-    double best[2] = {1e30, 1e30};
-    for (int round = 0; round < ROUNDS; round++)
-        for (int turn = 0; turn < 2; turn++) {
-            int side = (round + turn) % 2;
-            double took = nanoseconds(sides[side], calls);
-            if (took < best[side])
-                best[side] = took;
-        }
-    printf("%-18s ours %9.1f ns   %-8s %9.1f ns   ratio %.2f\n", name, best[0], whose, best[1], best[0] / best[1]);
-}
-
 int main(void)
 {
     for (size_t i = 0; i < sizeof texts; i++)
@@ -129,6 +104,16 @@ int main(void)
     measure("encipher a block", our_encipher, their_encipher, "OpenSSL", 10000);
     measure("decipher a block", our_decipher, their_decipher, "OpenSSL", 10000);
     measure("CRC-32 of 48 bytes", our_crc32, their_crc32, "zlib", 10000);
+    make_samples();
+    measure("make user permit", our_make, their_make, "plain C", 20);
+    measure("read user permit", our_read, their_read, "plain C", 20);
+    measure("read line", our_line, their_line, "plain C", 20);
+    measure("write line", our_write, their_write, "plain C", 20);
+    measure("read file line", our_file_line, their_file_line, "plain C", 20);
+    put_look_through(65000);
+    measure("look-through 65000", our_look_through, their_look_through, "plain C", 1);
+    put_look_through(0);
+    measure("look-through start", our_look_through, their_look_through, "plain C", 1);
     printf("sum of the answers %016llX\n", (unsigned long long)sum);
     return 0;
 }

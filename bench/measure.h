@@ -1,0 +1,37 @@
+/* Both sides take turns in many short rounds, each side first in half of them, and the best round of each counts: what else the
+   machine does can only make a round longer. */
+#ifndef MEASURE_H
+#define MEASURE_H
+
+#include <stdint.h>
+#include <stdio.h>
+#include <time.h>
+
+#define ROUNDS 400
+
+static uint64_t sum; /* of the answers */
+
+static inline double nanoseconds(void (*run)(int), int calls)
+{
+    struct timespec from, to;
+    clock_gettime(CLOCK_MONOTONIC, &from);
+    run(calls);
+    clock_gettime(CLOCK_MONOTONIC, &to);
+    return ((double)(to.tv_sec - from.tv_sec) * 1e9 + (double)(to.tv_nsec - from.tv_nsec)) / calls;
+}
+
+static inline void measure(const char *name, void (*ours)(int), void (*theirs)(int), const char *whose, int calls)
+{
+    void (*sides[2])(int) = {ours, theirs};
+    double best[2] = {1e30, 1e30};
+    for (int round = 0; round < ROUNDS; round++)
+        for (int turn = 0; turn < 2; turn++) {
+            int side = (round + turn) % 2;
+            double took = nanoseconds(sides[side], calls);
+            if (took < best[side])
+                best[side] = took;
+        }
+    printf("%-18s ours %9.1f ns   %-8s %9.1f ns   ratio %.2f\n", name, best[0], whose, best[1], best[0] / best[1]);
+}
+
+#endif

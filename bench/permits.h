@@ -1,0 +1,106 @@
+/* The calls of lambukir.h and the look-through, ours and the model's.
+
+   The samples are made for one HW_ID and used in turn: user permits of a register with 256 entries, lines, and a file of these lines.
+   Each call but the look-through sets up a key. */
+#ifndef PERMITS_H
+#define PERMITS_H
+
+#include <fcntl.h>
+
+#include "measure.h"
+#include "pieces.h"
+#include "process.h"
+
+#define SAMPLES 64
+#define ENTRIES 256
+#define OURS "target/bin/look_through"
+#define THEIRS "target/bench/look_through"
+
+static uint8_t reg[ENTRIES * ENTRY_BYTES], permits[SAMPLES][28], lines[SAMPLES][LONGEST_LINE + 40], written[76];
+static size_t reg_length, line_lengths[SAMPLES], places[SAMPLES];
+static record records[SAMPLES];
+static uint64_t hw_id;
+static pieces file;
+static int look_through_input = -1;
+
+static void make_samples(void)
+{
+    seed_random();
+    hw_id = some_hw_id();
+    reg_length = some_register(reg, ENTRIES);
+    put_text(&file, HEADER_TEXT);
+    for (size_t i = 0; i < SAMPLES; i++) {
+        model_make_user_permit(reg, reg_length, hw_id, m_id_at(reg, i * (ENTRIES / SAMPLES)), permits[i], sizeof permits[i]);
+        records[i] = some_record(20240301);
+        records[i].edition += records[i].edition == 0;
+        line_lengths[i] = line_of(&records[i], hw_id, lines[i]);
+        places[i] = file.length;
+        put_line(&file, lines[i], line_lengths[i], RECORD);
+    }
+}
+
+/* Each pair of functions runs the same calls, of the library and of the model. */
+#define BOTH(name, call)                                                                                                                         \
+    static void our_##name(int calls)                                                                                                            \
+    {                                                                                                                                            \
+        for (int i = 0; i < calls; i++)                                                                                                          \
+            sum += lambukir_##call;                                                                                                              \
+    }                                                                                                                                            \
+    static void their_##name(int calls)                                                                                                          \
+    {                                                                                                                                            \
+        for (int i = 0; i < calls; i++)                                                                                                          \
+            sum += model_##call;                                                                                                                 \
+    }
+
+#define NTH (i % SAMPLES)
+BOTH(make, make_user_permit(reg, reg_length, hw_id, m_id_at(reg, NTH), written, sizeof written))
+BOTH(read, read_user_permit(reg, reg_length, permits[NTH], 28).hw_id)
+BOTH(line, read_line(hw_id, 20240131, 30, lines[NTH], line_lengths[NTH]).key_one)
+BOTH(write, write_line(hw_id, records[NTH].name, records[NTH].expiry, records[NTH].key_one, records[NTH].key_two, records[NTH].level,
+                       records[NTH].edition, records[NTH].server, written, sizeof written).length)
+BOTH(file_line, read_file_line(hw_id, 20240131, 30, file.bytes, file.length, places[NTH]).next)
+
+/* An input of about so many bytes: the first line, a header and good lines. */
+static void put_look_through(size_t size)
+{
+    static pieces input;
+    char first[20];
+    snprintf(first, sizeof first, "xxxxx 20240131 30\r\n");
+    for (int i = 0; i < 5; i++)
+        first[i] = (char)(hw_id >> 8 * (4 - i));
+    input.length = input.lines = 0;
+    put_text(&input, first);
+    put_text(&input, HEADER_TEXT);
+    for (size_t i = 0; input.length + LONGEST_LINE + 2 < size; i++) {
+        put_record(&input, hw_id, days_after(20240131, i % 60));
+        input.lines = 0;
+    }
+    if (look_through_input >= 0)
+        close(look_through_input);
+    look_through_input = file_of(input.bytes, input.length);
+}
+
+/* Runs a program on the input, with nowhere to print to. */
+static void look_through(const char *path, int calls)
+{
+    int status, nowhere = need(open("/dev/null", O_WRONLY), "/dev/null");
+    for (int i = 0; i < calls; i++) {
+        need((int)lseek(look_through_input, 0, SEEK_SET), "lseek");
+        need(waitpid(start_program(path, look_through_input, nowhere), &status, 0), "waitpid");
+        if (status != 0)
+            need(-1, path);
+    }
+    close(nowhere);
+}
+
+static void our_look_through(int calls)
+{
+    look_through(OURS, calls);
+}
+
+static void their_look_through(int calls)
+{
+    look_through(THEIRS, calls);
+}
+
+#endif
