@@ -1,0 +1,43 @@
+/* Writes the sample PERMIT.TXT to standard output: permits for the ship with HW_ID 12348, written by the library, and two lines that went bad on the way. */
+#include <stdio.h>
+#include <string.h>
+
+#include "lambukir.h"
+
+#define HW_ID 0x3132333438 /* 12348 */
+#define SERVER 0x4742      /* GB */
+
+/* A cell name as a number: the big-endian value of its eight characters. */
+static uint64_t name_of(const char *name)
+{
+    uint64_t number = 0;
+    for (int i = 0; i < 8; i++)
+        number = number << 8 | (uint8_t)name[i];
+    return number;
+}
+
+/* One line, with one of its characters changed where change is not 0. */
+static int put_line(const char *name, uint32_t expiry, uint32_t level, uint32_t edition, size_t change)
+{
+    uint8_t line[76];
+    uint64_t key = name_of(name) % 0x10000000000;
+    lambukir_written written = lambukir_write_line(HW_ID, name_of(name), expiry, key, key ^ 0x5A5A5A5A5A, level, edition, SERVER, line, sizeof line);
+    if (written.number != 0)
+        return 1;
+    if (change != 0)
+        line[change] = line[change] == '0' ? '1' : '0';
+    return fwrite(line, 1, written.length, stdout) != written.length;
+}
+
+int main(void)
+{
+    fputs(":DATE 20240131 09:30\r\n:VERSION 2\r\n:ENC\r\n", stdout);
+    int bad = put_line("GB50184C", 20241231, 0, 7, 0);
+    bad |= put_line("NO4D0613", 20240215, 0, 10, 0);
+    bad |= put_line("DE416080", 20231231, 0, 3, 0);
+    bad |= put_line("FR572410", 20241231, 0, 112, 20);
+    fputs("FR57241\r\n", stdout);
+    bad |= put_line("US5NY1CM", 20250630, 1, 1, 0);
+    fputs(":ECS\r\n", stdout);
+    return bad;
+}
