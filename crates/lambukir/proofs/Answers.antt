@@ -16,7 +16,7 @@ use Rattle.permit.specs.declared.line.Line.{Line}
 use Rattle.permit.specs.declared.line.Line.the-variants as line
 use Rattle.permit.specs.declared.line.Record.{Record}
 use Rattle.lambukir.specs.declared.permits.LineRead.{LineRead}
-use Rattle.lambukir.specs.Permits.{lineWritten, lineRead}
+use Rattle.lambukir.specs.Permits.{textWritten, lineRead}
 
 abbrev answer : ℕ → ℕ → Block
 answer x n = record { block = x; number = n }
@@ -37,7 +37,7 @@ module _ (work : List ℕ → ℕ → ℕ) (key : List ℕ) (x : ℕ) where
       ∙ ap (λ (b : Bool). cond b (work (schedule key) x) 0) (sym key-is))
       (sym z ∙ e)
 
-pub written-number : (a : Written) → lineWritten a .number ≡ output.numberOf a
+pub written-number : (a : Written) → textWritten a .number ≡ output.numberOf a
 written-number (written.Length n) = refl
 written-number (written.Refused n) = refl
 

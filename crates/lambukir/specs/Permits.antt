@@ -14,7 +14,7 @@ use Rattle.permit.specs.declared.user_permit.UserPermit.{UserPermit}
 use Rattle.permit.specs.declared.user_permit.UserPermit.the-variants as user-permit
 use Rattle.lambukir.specs.declared.permits.UserPermitRead.{UserPermitRead}
 use Rattle.lambukir.specs.declared.permits.LineRead.{LineRead}
-use Rattle.lambukir.specs.declared.permits.LineWritten.{LineWritten}
+use Rattle.lambukir.specs.declared.permits.TextWritten.{TextWritten}
 use Rattle.lambukir.specs.declared.permits.Part.{Part}
 
 -- what a line is written from
@@ -57,10 +57,10 @@ lineRead (line.Refused n) = record {
   number = n;
 }
 
--- a line that was written: its length counts its CR LF
-abbrev pub lineWritten : Written → LineWritten
-lineWritten (written.Length n) = record { length = n; number = 0 }
-lineWritten (written.Refused n) = record { length = 0; number = n }
+-- a text that was written: its length, of a line with its CR LF
+abbrev pub textWritten : Written → TextWritten
+textWritten (written.Length n) = record { length = n; number = 0 }
+textWritten (written.Refused n) = record { length = 0; number = n }
 
 -- where the comment stands in a line of so many bytes; 0 and 0 for a line that gives 12
 abbrev pub partFrom : ℕ → CommentPlace → Part

@@ -7,12 +7,14 @@ use permit_file::Cursor;
 use permit_file::Opened;
 use permit_file::Step;
 
+// lambukir_place of the header.
 #[repr(C)]
 pub struct FileOpened {
     pub place: u64,
     pub number: u32,
 }
 
+// lambukir_file_line of the header.
 #[repr(C)]
 pub struct FileLineRead {
     pub name: u64,

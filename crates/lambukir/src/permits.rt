@@ -5,13 +5,14 @@ ghost use Rattle.permit.specs.Output.{answerOf, lentAfter, numberOf};
 ghost use Rattle.permit.specs.UserPermit.{made, readPermit};
 ghost use Rattle.permit.specs.CellPermit.{writtenLine};
 ghost use Rattle.permit.specs.Line.{readLine};
-ghost use Rattle.lambukir.specs.Permits.{cellOf, userPermitRead, lineRead, lineWritten, commentPart};
+ghost use Rattle.lambukir.specs.Permits.{cellOf, userPermitRead, lineRead, textWritten, commentPart};
 use permit::Written;
 use permit::line::Cell;
 use permit::line::CommentPlace;
 use permit::line::Line;
 use permit::user_permit::UserPermit;
 
+// lambukir_user_permit of the header.
 #[repr(C)]
 pub struct UserPermitRead {
     pub hw: u64,
@@ -19,6 +20,7 @@ pub struct UserPermitRead {
     pub number: u32,
 }
 
+// lambukir_line of the header.
 #[repr(C)]
 pub struct LineRead {
     pub name: u64,
@@ -31,12 +33,14 @@ pub struct LineRead {
     pub number: u32,
 }
 
+// lambukir_written of the header.
 #[repr(C)]
-pub struct LineWritten {
+pub struct TextWritten {
     pub length: u64,
     pub number: u32,
 }
 
+// lambukir_part of the header.
 #[repr(C)]
 pub struct Part {
     pub start: u64,
@@ -87,15 +91,15 @@ fn line_read(answer: Line) -> LineRead
     }
 }
 
-fn line_written(answer: Written) -> LineWritten
-    ensures { λ r. ⌜ r ≡ lineWritten answer ⌝ }
+fn text_written(answer: Written) -> TextWritten
+    ensures { λ r. ⌜ r ≡ textWritten answer ⌝ }
 {
     match answer {
-        Written::Length(n) => LineWritten {
+        Written::Length(n) => TextWritten {
             length: n as u64,
             number: 0,
         },
-        Written::Refused(number) => LineWritten { length: 0, number },
+        Written::Refused(number) => TextWritten { length: 0, number },
     }
 }
 
@@ -104,7 +108,7 @@ pub extern "C" fn lambukir_make_user_permit(register: &[u8], hw: u64, m: u32, ou
     ensures { λ r. ⌜ (r ≡ numberOf (answerOf (made (now (register .entry)) hw m (length (now (out .entry))))))
         × (now (out .exit) ≡ lentAfter (made (now (register .entry)) hw m (length (now (out .entry)))) (now (out .entry))) ⌝ }
 {
-    line_written(permit::user_permit::make_user_permit(register, hw, m, out)).number
+    text_written(permit::user_permit::make_user_permit(register, hw, m, out)).number
 }
 
 #[no_mangle]
@@ -148,8 +152,8 @@ pub extern "C" fn lambukir_write_line(
     edition: u32,
     server: u32,
     out: &mut [u8],
-) -> LineWritten
-    ensures { λ r. ⌜ (r ≡ lineWritten (answerOf (writtenLine hw (cellOf name expiry key1 key2 level edition server) (length (now (out .entry))))))
+) -> TextWritten
+    ensures { λ r. ⌜ (r ≡ textWritten (answerOf (writtenLine hw (cellOf name expiry key1 key2 level edition server) (length (now (out .entry))))))
         × (now (out .exit) ≡ lentAfter (writtenLine hw (cellOf name expiry key1 key2 level edition server) (length (now (out .entry)))) (now (out .entry))) ⌝ }
 {
     let cell = Cell {
@@ -161,5 +165,5 @@ pub extern "C" fn lambukir_write_line(
         edition,
         server,
     };
-    line_written(permit::writing_line::write_line(hw, cell, out))
+    text_written(permit::writing_line::write_line(hw, cell, out))
 }

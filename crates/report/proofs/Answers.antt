@@ -3,7 +3,7 @@
 use mathlib.Core.Path.{_≡_, refl, sym, ap, _∙_}
 use mathlib.Core.Bool.{false}
 use mathlib.Core.List.{List, [], _∷_}
-use Prim.Native.Nat.{ℕ, zero, suc, _-_, _≤_, _<_}
+use Prim.Native.Nat.{ℕ, zero, suc, _+_, _-_, _≤_, _<_}
 use native.Mathlib.Omega.{arith}
 use lib.ListN.{length}
 use Rattle.permit.specs.declared.line.Line.{Line}
@@ -14,6 +14,7 @@ use Rattle.permit_file.specs.declared.Step.{Step}
 use Rattle.permit_file.proofs.Steps.{places-rise}
 use Rattle.permit_file.specs.declared.Step.the-variants.{Record, Refused, End}
 use Rattle.report.specs.LookThrough.{following, answersFrom, encAnswers}
+use Rattle.report.specs.Enough.{EveryLine}
 
 -- the answers of all lines from a place on
 unfoldable pub rest : (List ℕ → Line) → List ℕ → ℕ → List Line
@@ -71,3 +72,8 @@ unfolding rest answersFrom
 rest-none read file =
     let none : length file - length file ≡ 0 = omega arith in
     ap (λ (n : ℕ). answersFrom read file n (length file)) none
+
+pub every-line : EveryLine
+unfolding encAnswers
+every-line read file more within =
+    enough read file (length file + more) (length file) firstPlace within (omega arith) (omega arith)

@@ -30,6 +30,7 @@ use Rattle.permit_file.specs.declared.Cursor.{Cursor}
 use Rattle.permit_file.specs.declared.Step.{Step}
 use Rattle.permit_file.specs.declared.Step.the-variants.{Record, Refused, End}
 use Rattle.report.specs.LookThrough.{following, answersFrom, encAnswers, nameOf, isNoticed, isRefused, rowOf, rowsFrom, countOf, lineEndsIn, roomFor}
+use Rattle.report.specs.Enough.{RoomEnough}
 use Rattle.report.specs.Turns.{Few, rowEnd, tallyOf}
 use Rattle.report.proofs.Answers.{rises, enough}
 use Rattle.report.proofs.LineEnds.{fewer-after, line-passed, two-bytes-each}
@@ -199,8 +200,7 @@ read-short words today days s =
     P : Line → Type 0
     P a = numberOf a < 100
 
--- 600,000 bytes are enough for every input
-pub room-enough : (input : List ℕ) → roomFor input ≤ 600000
+pub room-enough : RoomEnough
 unfolding roomFor
 room-enough input =
     either (leb (length input) 65536)

@@ -1,2 +1,3 @@
 pub mod LookThrough
+pub mod Enough
 pub mod Turns

@@ -99,19 +99,23 @@ unfoldable pub countOf : (Line → Bool) → List Line → ℕ
 countOf test [] = 0
 countOf test (a ∷ answers) = cond (test a) (suc (countOf test answers)) (countOf test answers)
 
--- `records `, ` current `, ` soon `, ` expired `, ` refused `
+-- `records `
 abbrev pub recordsWord : List ℕ
 recordsWord = 114 ∷ 101 ∷ 99 ∷ 111 ∷ 114 ∷ 100 ∷ 115 ∷ 32 ∷ []
 
+-- ` current `
 abbrev pub currentWord : List ℕ
 currentWord = 32 ∷ 99 ∷ 117 ∷ 114 ∷ 114 ∷ 101 ∷ 110 ∷ 116 ∷ 32 ∷ []
 
+-- ` soon `
 abbrev pub soonWord : List ℕ
 soonWord = 32 ∷ 115 ∷ 111 ∷ 111 ∷ 110 ∷ 32 ∷ []
 
+-- ` expired `
 abbrev pub expiredWord : List ℕ
 expiredWord = 32 ∷ 101 ∷ 120 ∷ 112 ∷ 105 ∷ 114 ∷ 101 ∷ 100 ∷ 32 ∷ []
 
+-- ` refused `
 abbrev pub refusedWord : List ℕ
 refusedWord = 32 ∷ 114 ∷ 101 ∷ 102 ∷ 117 ∷ 115 ∷ 101 ∷ 100 ∷ 32 ∷ []
 

@@ -1,7 +1,7 @@
 -- `lambukir::permits::lambukir_make_user_permit` meets its contract.
 use mathlib.Core.Path.{ap, _∙_}
 use Rattle.permit.specs.Output.{numberOf}
-use Rattle.lambukir.specs.declared.permits.LineWritten.{LineWritten}
+use Rattle.lambukir.specs.declared.permits.TextWritten.{TextWritten}
 use Rattle.lambukir.proofs.Answers.{written-number}
 use borrow.Author.Needs.{needs}
 use Rattle.lambukir.proofs.permits.lambukir_make_user_permit.Statement.{statement}
@@ -10,8 +10,8 @@ use Rattle.lambukir.proofs.permits.lambukir_make_user_permit.Tie as tie
 make-user-permit-requires : tie.Need-make-user-permit-requires
 make-user-permit-requires c κs = search needs
 
-line-written-requires : tie.Need-line-written-requires
-line-written-requires c κs = search needs
+text-written-requires : tie.Need-text-written-requires
+text-written-requires c κs = search needs
 
 same-length : tie.Need-same-length
 same-length c = search needs
@@ -19,8 +19,8 @@ same-length c = search needs
 returns : tie.Need-returns
 returns c =
     let making = c .before .before .before .make-user-permit .ensures in
-    (ap (λ (w : LineWritten). w .number) (c .line-written .ensures) ∙ written-number (c .before .before .before .make-user-permit .result) ∙ ap numberOf (making .0), making .1)
+    (ap (λ (w : TextWritten). w .number) (c .text-written .ensures) ∙ written-number (c .before .before .before .make-user-permit .result) ∙ ap numberOf (making .0), making .1)
 
 pub lambukir-make-user-permit-spec : {M : Type 1} → statement M
 lambukir-make-user-permit-spec =
-    tie.close (tie.spec make-user-permit-requires line-written-requires same-length returns)
+    tie.close (tie.spec make-user-permit-requires text-written-requires same-length returns)
