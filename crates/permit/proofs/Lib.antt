@@ -11,6 +11,7 @@ pub mod OnePlace
 pub mod Outputs
 pub mod UserPermits
 pub mod PermitsBack
+pub mod ShipRead
 pub mod ChangedPermits
 pub mod ShipCipher
 pub mod LineGuard

@@ -45,7 +45,7 @@ pub fn is_m_id(x: u32) -> bool
 pub fn is_cell_name(x: u64) -> bool
     ensures { λ r. ⌜ r ≡ isCellName x ⌝ }
 {
-    is_text(Alphabet::Name, 8, x)
+    text::names::are_name_characters(x)
 }
 
 // Data Server ID: two of A-Z 0-9.

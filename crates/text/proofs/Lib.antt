@@ -11,5 +11,7 @@ pub mod PlacedTexts
 pub mod LowDigits
 pub mod Numerals
 pub mod TextsAt
+pub mod AtOnce
 pub mod SameTexts
 pub mod NumbersAt
+pub mod NoChoices

@@ -1,15 +1,14 @@
 -- Hex, written in upper case, and decimal are alphabets. Assumes nothing.
-use mathlib.Core.Path.{_≡_, refl}
-use mathlib.Core.Bool.{Bool, true, false}
-use Prim.Native.Nat.{ℕ, _-_, _≤_, _<_}
+use mathlib.Core.Path.{_≡_}
+use mathlib.Core.Bool.{true}
+use Prim.Native.Nat.{ℕ, _-_, _≤_}
 use native.Mathlib.Omega.{arith}
 use borrow.Author.Tests.{lt-ltb, le-ltb, leb-true}
-use lib.Dec.{T, ltb, leb, eqb, eqb→eq}
-use lib.ListN.{replicate, length-replicate}
+use lib.Dec.{ltb, leb, eqb, eqb→eq}
 use Rattle.text.specs.Characters.{between, isDigit, isUpperHex, isHex, hexValue, hexCharacter, digitValue, digitCharacter}
 use Rattle.text.proofs.Every.{and-first, and-second, either}
 use Rattle.text.proofs.Alphabets.{Alphabet}
-use Rattle.text.proofs.Tables.{each, at-each}
+use Rattle.text.proofs.Tables.{T-true, computed}
 
 pub between-low : (low high c : ℕ) → between low high c ≡ true → low ≤ c
 between-low low high c e = leb-true low c (and-first (leb low c) (leb c high) e)
@@ -24,14 +23,6 @@ digit-low c e = between-low 48 57 c e
 pub digit-high : (c : ℕ) → isDigit c ≡ true → c ≤ 57
 unfolding isDigit
 digit-high c e = between-high 48 57 c e
-
-T-true : (t : Bool) → T t → t ≡ true
-T-true true h = refl
-T-true false h = absurd h
-
--- what the test says of each value below n, where antt computes it for all of them
-computed : (n : ℕ) (test : ℕ → Bool) → T (each (λ (k x : ℕ). test k) 0 (replicate n 0)) → (v : ℕ) → v < n → T (test v)
-computed n test t v fits = at-each (λ (k x : ℕ). test k) (replicate n 0) t v (rw length-replicate fits)
 
 hex-exactly : (c : ℕ) → isHex c ≡ ltb (hexValue c) 16
 unfolding isUpperHex hexValue

@@ -4,3 +4,4 @@ pub mod Places
 pub mod Texts
 pub mod Padding
 pub mod Inverse
+pub mod NoChoice
