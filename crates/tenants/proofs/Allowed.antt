@@ -1,0 +1,66 @@
+-- What has held where a call does something: it is refused otherwise.
+-- Assumes nothing.
+use mathlib.Core.Path.{_≡_, refl}
+use mathlib.Core.Bool.{Bool, true, false, _||_}
+use Prim.Native.Nat.{ℕ}
+use lib.Dec.{ltb}
+use lib.ListN.{length}
+use Rattle.permit.specs.Order.{demand}
+use Rattle.permit.specs.Identifiers.{isCellName}
+use Rattle.tenants.specs.declared.Held.{Held}
+use Rattle.tenants.specs.Cells.{cellOf}
+use Rattle.tenants.specs.Rules.{
+  Own,
+  Change,
+  enters,
+  withdraws,
+  sets,
+  nothing,
+  refuses,
+  isTenant,
+  isDays,
+  isHeld,
+  isSome,
+  entering,
+  withdrawing,
+  settingDays,
+}
+use Rattle.tenants.specs.Calls.{Call, enter, withdraw, setDays, askEdition, issue, check, changeOf}
+
+-- the name is held, or the quota has room for a new one
+abbrev pub hasRoom : Held → Own → Bool
+hasRoom cell own = isSome (cellOf (cell .name) (own .cells)) || ltb (length (own .cells)) (own .setting .quota)
+
+-- what has held where tenant t changes what is its own
+abbrev pub Allowed : ℕ → Own → Change → Type 0
+Allowed t own (enters cell) = (isTenant t ≡ true) × ((isHeld cell ≡ true) × (hasRoom cell own ≡ true))
+Allowed t own (withdraws name) = (isTenant t ≡ true) × ((isCellName name ≡ true) × (isSome (cellOf name (own .cells)) ≡ true))
+Allowed t own (sets days) = (isTenant t ≡ true) × (isDays days ≡ true)
+Allowed t own nothing = Unit {0}
+Allowed t own (refuses n) = Unit {0}
+
+module _ (t : ℕ) (own : Own) where
+  demanded : (test : Bool) (n : ℕ) (next : Change) → (test ≡ true → Allowed t own next) → Allowed t own (demand test (refuses n) next)
+  demanded true n next passed = passed refl
+  demanded false n next passed = tt
+
+  -- every call does only that
+  pub allowed : (call : Call) → Allowed t own (changeOf t call own)
+  unfolding entering withdrawing settingDays
+  allowed (enter cell) =
+      let new : Change = demand (hasRoom cell own) (refuses 105) (enters cell) in
+      demanded (isTenant t) 102 (demand (isHeld cell) (refuses 103) new)
+      (λ tenant. demanded (isHeld cell) 103 new
+      (λ held. demanded (hasRoom cell own) 105 (enters cell) (λ room. (tenant, (held, room)))))
+  allowed (withdraw name) =
+      let held : Bool = isSome (cellOf name (own .cells)) in
+      let gone : Change = demand held (refuses 104) (withdraws name) in
+      demanded (isTenant t) 102 (demand (isCellName name) (refuses 103) gone)
+      (λ tenant. demanded (isCellName name) 103 gone
+      (λ right. demanded held 104 (withdraws name) (λ there. (tenant, (right, there)))))
+  allowed (setDays days) =
+      demanded (isTenant t) 102 (demand (isDays days) (refuses 103) (sets days))
+      (λ tenant. demanded (isDays days) 103 (sets days) (λ right. (tenant, right)))
+  allowed (askEdition name) = tt
+  allowed (issue register name expiry level permit room) = tt
+  allowed (check hw today line) = tt

@@ -1,0 +1,11 @@
+pub mod Ordered
+pub mod OwnCells
+pub mod Ranges
+pub mod Allowed
+pub mod Goodness
+pub mod Room
+pub mod Counts
+pub mod KeptGood
+pub mod FoundHeld
+pub mod Apart
+pub mod MixedLists

@@ -1,0 +1,89 @@
+-- What is tested of a tenant, warning days, a name, a cell and a record, as bounds; and back.
+-- Assumes nothing.
+use mathlib.Core.Path.{_≡_, sym}
+use mathlib.Core.Bool.{true, false}
+use Prim.Native.Nat.{ℕ, _+_, _*_, _/_, _%_, _^_, _≤_, _<_}
+use native.Mathlib.Omega.{arith}
+use borrow.Author.Tests.{leb-true, le-leb, lt-leb, ltb-true, lt-ltb}
+use lib.Dec.{leb}
+use Rattle.text.specs.Characters.{isNameCharacter}
+use Rattle.text.proofs.Every.{and-first, and-second, either, same-tests}
+use Rattle.permit.specs.Identifiers.{isCellName, isCellKey}
+use Rattle.permit.proofs.GoodCell.{text-fits}
+use Rattle.tenants.specs.declared.Held.{Held}
+use Rattle.tenants.specs.Rules.{isTenant, isDays, isHeld}
+use Rattle.tenants.specs.Together.{names, tenantOf, isRecord}
+use Rattle.tenants.proofs.OwnCells.{own, inBook}
+
+module _ (t : ℕ) where
+  pub tenant-is : t ≤ 15 → isTenant t ≡ true
+  unfolding isTenant
+  tenant-is few = le-leb t 15 few
+
+  pub tenant-not : 15 < t → isTenant t ≡ false
+  unfolding isTenant
+  tenant-not many = lt-leb t 15 many
+
+  pub tenant-below : isTenant t ≡ true → t < 16
+  unfolding isTenant
+  tenant-below tenant = omega (arith, leb-true t 15 tenant)
+
+pub days-below : (days : ℕ) → isDays days ≡ true → days < 256
+unfolding isDays
+days-below days right = omega (arith, leb-true days 90 (and-second (leb 1 days) (leb days 90) right))
+
+pub name-below : (name : ℕ) → isCellName name ≡ true → name < names
+name-below name right = text-fits isNameCharacter 8 name right
+
+-- a cell with all its values in their ranges
+pub record Fit (cell : Held) : Type 0 where
+  pub name : isCellName (cell .name) ≡ true
+  pub low : 1 ≤ cell .edition
+  pub high : cell .edition ≤ 999
+  pub key1 : cell .key1 < 256 ^ 5
+  pub key2 : cell .key2 < 256 ^ 5
+
+pub held-fits : (cell : Held) → isHeld cell ≡ true → Fit cell
+unfolding isHeld
+held-fits cell held = record {
+  name = search (and-first, and-second);
+  low = leb-true 1 (cell .edition) (search (and-first, and-second));
+  high = leb-true (cell .edition) 999 (search (and-first, and-second));
+  key1 = ltb-true (cell .key1) (256 ^ 5) (search (and-first, and-second));
+  key2 = ltb-true (cell .key2) (256 ^ 5) (search (and-first, and-second));
+}
+
+pub held-below : (cell : Held) → isHeld cell ≡ true → cell .name < names
+held-below cell held = name-below (cell .name) (held-fits cell held .name)
+
+-- a cell with a value that does not fit
+pub not-fit : (cell : Held) → (Fit cell → ⊥) → false ≡ isHeld cell
+not-fit cell wrong = either (isHeld cell) (λ held. absurd (wrong (held-fits cell held))) (λ bad. sym bad)
+
+-- the second key decides where all else fits
+pub by-second-key : (cell : Held) → isCellName (cell .name) ≡ true → 1 ≤ cell .edition → cell .edition ≤ 999
+    → cell .key1 ≤ 0xFF_FFFF_FFFF → leb (cell .key2) 0xFF_FFFF_FFFF ≡ isHeld cell
+unfolding isHeld
+by-second-key cell name low high one =
+    rw (name, le-leb 1 (cell .edition) low, le-leb (cell .edition) 999 high, lt-ltb (cell .key1) (256 ^ 5) (omega arith))
+    (same-tests (leb (cell .key2) 0xFF_FFFF_FFFF) (isCellKey (cell .key2))
+    (λ h. lt-ltb (cell .key2) (256 ^ 5) (omega (arith, leb-true (cell .key2) 0xFF_FFFF_FFFF h)))
+    (λ h. le-leb (cell .key2) 0xFF_FFFF_FFFF (omega (arith, ltb-true (cell .key2) (256 ^ 5) h))))
+
+module _ (r : Held) (is : isRecord r ≡ true) where
+  pub record-below : tenantOf r < 16
+  unfolding isRecord
+  record-below = tenant-below (tenantOf r) (and-first (isTenant (tenantOf r)) (isHeld (own r)) is)
+
+  pub record-held : isHeld (own r) ≡ true
+  unfolding isRecord
+  record-held = and-second (isTenant (tenantOf r)) (isHeld (own r)) is
+
+-- a tenant's cell is a record
+pub record-is : (t : ℕ) (cell : Held) → isTenant t ≡ true → isHeld cell ≡ true → isRecord (inBook t cell) ≡ true
+unfolding isRecord
+record-is t cell tenant held =
+    let small : cell .name < names = held-below cell held in
+    let mine : (t * names + cell .name) / names ≡ t = omega arith in
+    let name : (t * names + cell .name) % names ≡ cell .name = omega arith in
+    rw (mine, name, tenant, held)

@@ -1,0 +1,5 @@
+pub mod Cells
+pub mod Rules
+pub mod Calls
+pub mod Alone
+pub mod Together

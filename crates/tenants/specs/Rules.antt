@@ -1,0 +1,129 @@
+-- The rules for one tenant, which go by its own list of cells and its own setting. Refusals stand in their order.
+use mathlib.Core.Bool.{Bool, true, false, _&&_, _||_}
+use mathlib.Core.List.{List}
+use mathlib.Core.Option.{Option, none, some}
+use Prim.Native.Nat.{ℕ}
+use lib.Dec.{leb, ltb}
+use lib.ListN.{length}
+use Rattle.dates.specs.Calendar.{isDate}
+use Rattle.permit.specs.Order.{demand}
+use Rattle.permit.specs.Identifiers.{isCellName, isCellKey}
+use Rattle.permit.specs.Register.{isRegister}
+use Rattle.permit.specs.UserPermit.{readPermit}
+use Rattle.permit.specs.CellPermit.{writtenLine}
+use Rattle.permit.specs.Line.{readLine}
+use Rattle.permit.specs.Output.{Output, refusal}
+use Rattle.permit.specs.declared.line.Cell.{Cell}
+use Rattle.permit.specs.declared.line.Line.{Line}
+use Rattle.permit.specs.declared.line.Line.the-variants as of-line
+use Rattle.permit.specs.declared.user_permit.UserPermit.{UserPermit}
+use Rattle.permit.specs.declared.user_permit.UserPermit.the-variants as user-permit
+use Rattle.tenants.specs.declared.Held.{Held}
+use Rattle.tenants.specs.declared.Setting.{Setting}
+use Rattle.tenants.specs.declared.Asked.{Asked}
+use Rattle.tenants.specs.declared.Asked.the-variants as asked
+use Rattle.tenants.specs.Cells.{cellOf}
+
+-- what is one tenant's own: its setting, and its cells in name order
+pub record Own : Type 0 where
+  pub setting : Setting
+  pub cells : List Held
+
+-- what a call does to what is the tenant's own; a refusal does nothing
+pub data Change : Type 0 where
+  enters : Held → Change
+  withdraws : ℕ → Change
+  sets : ℕ → Change
+  nothing : Change
+  refuses : ℕ → Change
+
+-- its number: 0 for done
+abbrev pub numberOf : Change → ℕ
+numberOf (enters cell) = 0
+numberOf (withdraws name) = 0
+numberOf (sets days) = 0
+numberOf nothing = 0
+numberOf (refuses n) = n
+
+-- tenants are 0 to 15
+unfoldable pub isTenant : ℕ → Bool
+isTenant t = leb t 15
+
+-- warning days are 1 to 90
+unfoldable pub isDays : ℕ → Bool
+isDays days = leb 1 days && leb days 90
+
+-- a cell's name, edition (1 to 999) and keys are in their ranges and alphabets
+unfoldable pub isHeld : Held → Bool
+isHeld cell = isCellName (cell .name) && (leb 1 (cell .edition) && leb (cell .edition) 999) && isCellKey (cell .key1) && isCellKey (cell .key2)
+
+-- there is a cell
+abbrev pub isSome : Option Held → Bool
+isSome none = false
+isSome (some cell) = true
+
+-- enter a cell: a held name is replaced, a new one needs room in the tenant's own quota
+unfoldable pub entering : ℕ → Held → Own → Change
+entering t cell own =
+    demand (isTenant t) (refuses 102)
+    (demand (isHeld cell) (refuses 103)
+    (demand (isSome (cellOf (cell .name) (own .cells)) || ltb (length (own .cells)) (own .setting .quota)) (refuses 105)
+    (enters cell)))
+
+-- withdraw a cell
+unfoldable pub withdrawing : ℕ → ℕ → Own → Change
+withdrawing t name own =
+    demand (isTenant t) (refuses 102)
+    (demand (isCellName name) (refuses 103)
+    (demand (isSome (cellOf name (own .cells))) (refuses 104)
+    (withdraws name)))
+
+-- set warning days
+unfoldable pub settingDays : ℕ → ℕ → Own → Change
+settingDays t days own =
+    demand (isTenant t) (refuses 102)
+    (demand (isDays days) (refuses 103)
+    (sets days))
+
+-- the edition of a cell: 104 where it is not held
+abbrev pub editionOf : Option Held → Asked
+editionOf none = asked.Refused 104
+editionOf (some cell) = asked.Edition (cell .edition)
+
+-- ask the edition
+unfoldable pub asking : ℕ → ℕ → Own → Asked
+asking t name own =
+    demand (isTenant t) (asked.Refused 102)
+    (demand (isCellName name) (asked.Refused 103)
+    (editionOf (cellOf name (own .cells))))
+
+-- what a line is written from: edition and keys as held, the tenant's own Data Server ID, the rest as given
+abbrev pub lineCell : Setting → Held → ℕ → ℕ → Cell
+lineCell setting cell expiry level = record {
+  name = cell .name;
+  key1 = cell .key1;
+  key2 = cell .key2;
+  expiry = expiry;
+  level = level;
+  edition = cell .edition;
+  server = setting .server;
+}
+
+-- the line for the ship of a user permit: 106, 17, 107 or 18 as the permit reads, then 104 where the cell is not held
+abbrev pub lineFor : UserPermit → Option Held → Setting → ℕ → ℕ → ℕ → Output
+lineFor (user-permit.Refused n) cell setting expiry level room = refusal n
+lineFor (user-permit.Ship hw m) none setting expiry level room = refusal 104
+lineFor (user-permit.Ship hw m) (some cell) setting expiry level room = writtenLine hw (lineCell setting cell expiry level) room
+
+-- issue a line, from cell name, expiry, service level and user permit, into an output of so many bytes
+unfoldable pub issuing : ℕ → List ℕ → ℕ → ℕ → ℕ → List ℕ → ℕ → Own → Output
+issuing t register name expiry level permit room own =
+    demand (isRegister register) (refusal 109)
+    (demand (isTenant t) (refusal 102)
+    (demand (leb 76 room) (refusal 108)
+    (demand (isCellName name && isDate expiry && leb level 1) (refusal 103)
+    (lineFor (readPermit register permit) (cellOf name (own .cells)) (own .setting) expiry level room))))
+
+-- check a line with the tenant's own warning days: 18, 14, 12, 13 and 21 as the line reads
+unfoldable pub checking : ℕ → ℕ → ℕ → List ℕ → Own → Line
+checking t hw today line own = demand (isTenant t) (of-line.Refused 102) (readLine hw today (own .setting .days) line)

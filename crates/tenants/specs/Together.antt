@@ -1,0 +1,93 @@
+-- Sixteen tenants together: one list of all their cells, ordered by tenant and then by name.
+use mathlib.Core.Bool.{Bool, true, cond, _&&_}
+use mathlib.Core.List.{List, [], _∷_}
+use Prim.Native.Nat.{ℕ, suc, _+_, _*_, _/_, _%_}
+use lib.Dec.{leb, eqb}
+use lib.ListN.{length, getD, set}
+use Rattle.permit.specs.Identifiers.{isServerId}
+use Rattle.tenants.specs.declared.Held.{Held}
+use Rattle.tenants.specs.declared.Setting.{Setting}
+use Rattle.tenants.specs.Cells.{entered, withdrawn, startsAbove}
+use Rattle.tenants.specs.Rules.{Own, Change, enters, withdraws, sets, nothing, refuses, isTenant, isDays, isHeld}
+use Rattle.tenants.specs.Alone.{withDays}
+
+-- the settings by tenant, and the records: each cell under its full name
+pub record Book : Type 0 where
+  pub settings : List Setting
+  pub records : List Held
+
+-- names are numbers of eight bytes, so below 256 ^ 8
+abbrev pub names : ℕ
+names = 18446744073709551616
+
+-- the full name: one byte more in front, the tenant, so that full names go by tenant and then by name
+abbrev pub fullName : ℕ → ℕ → ℕ
+fullName t name = t * names + name
+
+-- the tenant of a record
+abbrev pub tenantOf : Held → ℕ
+tenantOf r = r .name / names
+
+-- the cell name of a record
+abbrev pub nameOf : Held → ℕ
+nameOf r = r .name % names
+
+-- a cell under another name
+abbrev pub named : ℕ → Held → Held
+named name cell = record { name = name; edition = cell .edition; key1 = cell .key1; key2 = cell .key2 }
+
+-- the cells of tenant t by their names
+unfoldable pub cellsOf : ℕ → List Held → List Held
+cellsOf t [] = []
+cellsOf t (r ∷ records) = cond (eqb (tenantOf r) t) (named (nameOf r) r ∷ cellsOf t records) (cellsOf t records)
+
+-- the setting of a number that is no tenant's
+abbrev pub noSetting : Setting
+noSetting = record { quota = 0; days = 0; server = 0 }
+
+-- what is tenant t's own
+unfoldable pub ownOf : ℕ → Book → Own
+ownOf t book = record { setting = getD (book .settings) t noSetting; cells = cellsOf t (book .records) }
+
+-- the book after a change that tenant t makes
+abbrev pub changed : ℕ → Change → Book → Book
+changed t (enters cell) book = record { settings = book .settings; records = entered (named (fullName t (cell .name)) cell) (book .records) }
+changed t (withdraws name) book = record { settings = book .settings; records = withdrawn (fullName t name) (book .records) }
+changed t (sets days) book = record { settings = set (book .settings) t (withDays days (getD (book .settings) t noSetting)); records = book .records }
+changed t nothing book = book
+changed t (refuses n) book = book
+
+-- warning days 1 to 90, and a Data Server ID
+unfoldable pub isSetting : Setting → Bool
+isSetting setting = isDays (setting .days) && isServerId (setting .server)
+
+-- each setting is so
+unfoldable pub areSettings : List Setting → Bool
+areSettings [] = true
+areSettings (s ∷ settings) = isSetting s && areSettings settings
+
+-- the sum of the quotas
+unfoldable pub quotaSum : List Setting → ℕ
+quotaSum [] = 0
+quotaSum (s ∷ settings) = s .quota + quotaSum settings
+
+-- tenant 0 to 15, and a cell with its name, edition and keys
+unfoldable pub isRecord : Held → Bool
+isRecord r = isTenant (tenantOf r) && isHeld (named (nameOf r) r)
+
+-- each record is so, and they rise strictly by tenant and then by name
+unfoldable pub areRecords : List Held → Bool
+areRecords [] = true
+areRecords (r ∷ records) = isRecord r && startsAbove (r .name) records && areRecords records
+
+-- no tenant holds more than its quota; the settings are those of tenant t and the following
+unfoldable pub withinQuotas : ℕ → List Setting → List Held → Bool
+withinQuotas t [] records = true
+withinQuotas t (s ∷ settings) records = leb (length (cellsOf t records)) (s .quota) && withinQuotas (suc t) settings records
+
+-- sixteen settings, quotas that sum to at most 512, at most 512 records, and all as it should be
+unfoldable pub isGood : Book → Bool
+isGood book =
+    eqb (length (book .settings)) 16 && areSettings (book .settings) && leb (quotaSum (book .settings)) 512
+    && leb (length (book .records)) 512 && areRecords (book .records)
+    && withinQuotas 0 (book .settings) (book .records)

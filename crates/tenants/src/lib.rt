@@ -1,0 +1,22 @@
+// What the rules for a tenant's own list of cells are about.
+
+// A cell as a tenant holds it.
+pub struct Held {
+    pub name: u64,
+    pub edition: u32,
+    pub key1: u64,
+    pub key2: u64,
+}
+
+// What is set for a tenant: how many cells it may hold, its warning days and its Data Server ID.
+pub struct Setting {
+    pub quota: u32,
+    pub days: u32,
+    pub server: u32,
+}
+
+// What asking for an edition answers.
+pub enum Asked {
+    Edition(u32),
+    Refused(u32),
+}
