@@ -1,0 +1,165 @@
+-- What is written of a book whose numbers fit is read back.
+-- Assumes nothing.
+use mathlib.Core.Path.{_≡_, refl, sym, ap, ap₂, _∙_}
+use mathlib.Core.List.{List, [], _∷_, _++_, append-assoc}
+use Prim.Native.Nat.{ℕ, _+_, _-_, _^_, _<_}
+use native.Mathlib.Nat.{mod-eq-of-lt}
+use native.Mathlib.Omega.{arith}
+use lib.ListN.{length, length-append}
+use Rattle.text.specs.Numbers.{bytesOf}
+use Rattle.text.specs.Places.{numberAt}
+use Rattle.text.proofs.Digits.{digits-length}
+use Rattle.text.proofs.Places.{number-written}
+use Rattle.tenants.specs.declared.Held.{Held}
+use Rattle.tenants.specs.declared.Setting.{Setting}
+use Rattle.tenants.specs.Together.{Book}
+use Rattle.layout.specs.Layout.{
+  settingSize,
+  recordSize,
+  bookSize,
+  zeros,
+  settingBytes,
+  recordBytes,
+  allBytes,
+  usedLength,
+  bookBytes,
+  settingPlace,
+  recordPlace,
+  settingAt,
+  recordAt,
+  countOf,
+  eachFrom,
+  bookOf,
+}
+use Rattle.layout.proofs.Sizes.{setting-size, record-size, settings-size}
+use Rattle.layout.proofs.Each.{each-back}
+use Rattle.layout.proofs.Fits.{SettingFits, RecordFits, BookFits}
+
+-- a number that fits is read where its bytes stand
+pub number-back : (n x at : ℕ) (front back : List ℕ) {s : List ℕ} → s ≡ front ++ (bytesOf n x ++ back) → length front ≡ at → x < 256 ^ n
+    → numberAt n s at ≡ x
+number-back n x at front back {s} e start fits =
+    ap₂ (numberAt n) e (sym start) ∙ number-written n x front back ∙ mod-eq-of-lt fits
+
+module _ (x : Setting) (t : ℕ) (front back : List ℕ) (start : length front ≡ settingPlace t) (fits : SettingFits x) where
+  setting-back : settingAt (front ++ (settingBytes x ++ back)) t ≡ x
+  setting-back = unfold settingAt in λ i. record { quota = quota i; days = days i; server = server i }
+    where
+      s : List ℕ
+      s = front ++ (settingBytes x ++ back)
+
+      before-days : List ℕ
+      before-days = front ++ bytesOf 2 (x .quota)
+
+      after-days : List ℕ
+      after-days = bytesOf 2 (x .server) ++ (zeros 1 ++ back)
+
+      quota : numberAt 2 s (settingPlace t) ≡ x .quota
+      quota =
+          number-back 2 (x .quota) (settingPlace t) front (bytesOf 1 (x .days) ++ after-days)
+          (unfold settingBytes in simp append-assoc) start (fits .quota)
+
+      days : numberAt 1 s (settingPlace t + 2) ≡ x .days
+      days =
+          number-back 1 (x .days) (settingPlace t + 2) before-days after-days
+          (unfold settingBytes in simp append-assoc) (simp (length-append, digits-length) (omega arith)) (fits .days)
+
+      server : numberAt 2 s (settingPlace t + 3) ≡ x .server
+      server =
+          number-back 2 (x .server) (settingPlace t + 3) (before-days ++ bytesOf 1 (x .days)) (zeros 1 ++ back)
+          (unfold settingBytes in simp append-assoc) (simp (length-append, digits-length) (omega arith)) (fits .server)
+
+module _ (r : Held) (i : ℕ) (front back : List ℕ) (start : length front ≡ recordPlace i) (fits : RecordFits r) where
+  record-back : recordAt (front ++ (recordBytes r ++ back)) i ≡ r
+  record-back = unfold recordAt in λ j. record { name = name j; edition = edition j; key1 = key1 j; key2 = key2 j }
+    where
+      s : List ℕ
+      s = front ++ (recordBytes r ++ back)
+
+      before-edition : List ℕ
+      before-edition = front ++ bytesOf 9 (r .name)
+
+      before-key1 : List ℕ
+      before-key1 = before-edition ++ bytesOf 2 (r .edition)
+
+      after-key1 : List ℕ
+      after-key1 = bytesOf 5 (r .key2) ++ (zeros 3 ++ back)
+
+      after-edition : List ℕ
+      after-edition = bytesOf 5 (r .key1) ++ after-key1
+
+      name : numberAt 9 s (recordPlace i) ≡ r .name
+      name =
+          number-back 9 (r .name) (recordPlace i) front (bytesOf 2 (r .edition) ++ after-edition)
+          (unfold recordBytes in simp append-assoc) start (fits .name)
+
+      edition : numberAt 2 s (recordPlace i + 9) ≡ r .edition
+      edition =
+          number-back 2 (r .edition) (recordPlace i + 9) before-edition after-edition
+          (unfold recordBytes in simp append-assoc) (simp (length-append, digits-length) (omega arith)) (fits .edition)
+
+      key1 : numberAt 5 s (recordPlace i + 11) ≡ r .key1
+      key1 =
+          number-back 5 (r .key1) (recordPlace i + 11) before-key1 after-key1
+          (unfold recordBytes in simp append-assoc) (simp (length-append, digits-length) (omega arith)) (fits .key1)
+
+      key2 : numberAt 5 s (recordPlace i + 16) ≡ r .key2
+      key2 =
+          number-back 5 (r .key2) (recordPlace i + 16) (before-key1 ++ bytesOf 5 (r .key1)) (zeros 3 ++ back)
+          (unfold recordBytes in simp append-assoc) (simp (length-append, digits-length) (omega arith)) (fits .key2)
+
+-- version and used length
+abbrev pub start : ℕ → List ℕ
+start n = 1 ∷ bytesOf 4 (usedLength n)
+
+-- what stands before the records
+abbrev pub head : ℕ → List Setting → List ℕ
+head n settings = start n ++ allBytes settingBytes settings
+
+-- the zeros past the used length
+abbrev pub rest : ℕ → List ℕ
+rest n = zeros (bookSize - usedLength n)
+
+pub head-size : (n : ℕ) (settings : List Setting) → length settings ≡ 16 → length (head n settings) ≡ recordPlace 0
+head-size n settings sixteen = simp (length-append, digits-length, settings-size) (omega arith)
+
+-- the book as its head, its records and zeros
+pub bytes-parts : (book : Book)
+    → bookBytes book ≡ head (length (book .records)) (book .settings) ++ (allBytes recordBytes (book .records) ++ rest (length (book .records)))
+unfolding bookBytes
+bytes-parts book = simp append-assoc
+
+module _ (book : Book) (fits : BookFits book) where
+  abbrev n : ℕ
+  n = length (book .records)
+
+  abbrev after : List ℕ
+  after = allBytes recordBytes (book .records) ++ rest n
+
+  pub used-back : numberAt 4 (bookBytes book) 1 ≡ usedLength n
+  unfolding bookBytes
+  used-back = number-back 4 (usedLength n) 1 (1 ∷ []) (allBytes settingBytes (book .settings) ++ after) refl refl (omega (arith, fits .few))
+
+  pub count-back : countOf (bookBytes book) ≡ n
+  unfolding countOf
+  count-back = rw used-back (omega arith)
+
+  all-settings : eachFrom (settingAt (bookBytes book)) 0 16 ≡ book .settings
+  unfolding bookBytes
+  all-settings =
+      ap (eachFrom (settingAt (bookBytes book)) 0) (sym (fits .sixteen))
+      ∙ each-back settingSize settingBytes settingPlace (λ t. omega arith) setting-size SettingFits settingAt setting-back
+      (book .settings) 0 (start n) after (simp digits-length) (fits .settings)
+
+  all-records : eachFrom (recordAt (bookBytes book)) 0 n ≡ book .records
+  all-records =
+      ap (λ (s : List ℕ). eachFrom (recordAt s) 0 n) (bytes-parts book)
+      ∙ each-back recordSize recordBytes recordPlace (λ i. omega arith) record-size RecordFits recordAt record-back
+      (book .records) 0 (head n (book .settings)) (rest n) (head-size n (book .settings) (fits .sixteen)) (fits .records)
+
+  pub book-back : bookOf (bookBytes book) ≡ book
+  unfolding bookOf
+  book-back =
+      ap₂ (λ (settings : List Setting) (records : List Held). record { settings = settings; records = records })
+      all-settings
+      (ap (eachFrom (recordAt (bookBytes book)) 0) count-back ∙ all-records)
