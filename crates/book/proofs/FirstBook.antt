@@ -1,0 +1,164 @@
+-- What opening writes: zeros, the start, and the settings one after the other; together they are the empty book.
+-- Assumes nothing.
+use mathlib.Core.Path.{_≡_, refl, sym, ap, ap₂, _∙_}
+use mathlib.Core.Bool.{true, false}
+use mathlib.Core.List.{List, [], _∷_, _++_, append-assoc, append-nil}
+use Prim.Native.Nat.{ℕ, suc, _+_, _-_, _*_, _/_, _%_, _≤_, _<_}
+use native.Mathlib.Nat.{div-one}
+use native.Mathlib.Omega.{arith}
+use borrow.Author.Tests.{eq-eqb, ne-eqb}
+use lib.ListN.{length, take, drop, set, length-append, length-set, length-replicate, replicate-append-replicate, drop-of-length-le}
+use lib.Seq.{take-all, take-suc-set, drop-at}
+use Rattle.text.specs.Numbers.{digits}
+use Rattle.text.specs.Texts.{placed}
+use Rattle.text.proofs.PlacedTexts.{length-placed, placed-none, placed-start, placed-next}
+use Rattle.permit.specs.Output.{numberOf, answerOf, lentAfter}
+use Rattle.tenants.specs.declared.Setting.{Setting}
+use Rattle.layout.specs.Layout.{bookSize, settingPlace, zeros, settingBytes, allBytes, bookBytes, eachFrom}
+use Rattle.layout.proofs.Each.{each-count}
+use Rattle.layout.proofs.Sizes.{setting-size, settings-size, book-size}
+use Rattle.book.specs.Opening.{firstSetting, emptyBook, areGiven, opened}
+
+-- s is s₀ with zeros before place i
+pub record Cleared (s₀ s : List ℕ) (i : ℕ) : Type 0 where
+  pub few : i ≤ length s₀
+  pub same : length s ≡ length s₀
+  pub clear : take i s ≡ zeros i
+
+module _ {s₀ : List ℕ} where
+  pub cleared-none : Cleared s₀ s₀ 0
+  cleared-none = record { few = omega arith; same = refl; clear = refl }
+
+  module _ {s : List ℕ} {i : ℕ} (so-far : Cleared s₀ s i) where
+    pub cleared-next : i < length s → Cleared s₀ (set s i 0) (i + 1)
+    cleared-next more =
+        let next : i + 1 ≡ suc i = omega arith in
+        record {
+          few = omega (arith, so-far .same);
+          same = simp length-set (so-far .same);
+          clear =
+              ap (λ (n : ℕ). take n (set s i 0)) next
+              ∙ take-suc-set s i 0 more
+              ∙ ap (λ (l : List ℕ). l ++ zeros 1) (so-far .clear)
+              ∙ replicate-append-replicate i 1 0;
+        }
+
+    pub cleared-all : length s ≤ i → s ≡ zeros (length s₀)
+    cleared-all done =
+        let all : i ≡ length s₀ = omega (arith, so-far .same, so-far .few) in
+        sym (take-all i s done) ∙ so-far .clear ∙ ap zeros all
+
+pub six-bytes : (s : Setting)
+    → s .quota / 256 % 256 ∷ s .quota % 256 ∷ s .days % 256 ∷ s .server / 256 % 256 ∷ s .server % 256 ∷ 0 ∷ [] ≡ settingBytes s
+unfolding settingBytes digits
+six-bytes s = sym (rw (div-one (s .quota), div-one (s .days), div-one (s .server)))
+
+-- zeros past n of them
+drop-zeros : (n m size : ℕ) → size ≡ n + m → drop n (zeros size) ≡ zeros m
+drop-zeros n m size e =
+    ap (λ (k : ℕ). drop n (zeros k)) e
+    ∙ ap (drop n) (sym (replicate-append-replicate n m 0))
+    ∙ drop-at (zeros n) (zeros m) n (length-replicate n 0)
+
+-- version 1 and the used length
+abbrev start : List ℕ
+start = 1 ∷ 0 ∷ 0 ∷ 0 ∷ 101 ∷ []
+
+module _ (quotas ids : List ℕ) where
+  -- the bytes of the settings of n tenants from t on
+  abbrev firstBytes : ℕ → ℕ → List ℕ
+  firstBytes t n = allBytes settingBytes (eachFrom (firstSetting quotas ids) t n)
+
+  -- s with these put at their place
+  abbrev putFrom : ℕ → ℕ → List ℕ → List ℕ
+  putFrom t n s = placed (settingPlace t) (firstBytes t n) s
+
+  first-size : (t n : ℕ) → length (firstBytes t n) ≡ 6 * n
+  first-size t n = settings-size (eachFrom (firstSetting quotas ids) t n) ∙ ap (λ (m : ℕ). 6 * m) (each-count (firstSetting quotas ids) t n)
+
+  -- s has the settings of the tenants before t, and with those from t on it has them all
+  pub record SettingsPut (s₀ s : List ℕ) (t : ℕ) : Type 0 where
+    pub few : t ≤ 16
+    pub room : 101 ≤ length s
+    pub same : length s ≡ length s₀
+    pub rest : putFrom t (16 - t) s ≡ putFrom 0 16 s₀
+
+  pub settings-none : {s₀ : List ℕ} → 101 ≤ length s₀ → SettingsPut s₀ s₀ 0
+  settings-none room = record { few = omega arith; room = room; same = refl; rest = refl }
+
+  module _ {s₀ s : List ℕ} {t : ℕ} (so-far : SettingsPut s₀ s t) where
+    pub settings-next : t < 16 → (x : Setting) (s₁ : List ℕ) → x ≡ firstSetting quotas ids t
+        → s₁ ≡ placed (settingPlace t) (settingBytes x) s → SettingsPut s₀ s₁ (t + 1)
+    unfolding eachFrom allBytes
+    settings-next more x s₁ is written =
+        let count : 16 - t ≡ suc (16 - (t + 1)) = omega arith in
+        let next : suc t ≡ t + 1 = omega arith in
+        let one = settingBytes (firstSetting quotas ids t) in
+        let put : s₁ ≡ placed (settingPlace t) one s = written ∙ ap (λ (y : Setting). placed (settingPlace t) (settingBytes y) s) is in
+        let size : length s₁ ≡ length s = ap length put ∙ length-placed (settingPlace t) one s in
+        let after = firstBytes (t + 1) (16 - (t + 1)) in
+        let one-size : length one ≡ 6 = setting-size (firstSetting quotas ids t) in
+        let after-size : length after ≡ 6 * (16 - (t + 1)) = first-size (t + 1) (16 - (t + 1)) in
+        record {
+          few = omega arith;
+          room = omega (arith, so-far .room);
+          same = size ∙ so-far .same;
+          rest =
+              ap (placed (settingPlace (t + 1)) after) put
+              ∙ placed-next (settingPlace t) (settingPlace (t + 1)) one after s (omega arith) (omega (arith, so-far .room))
+              ∙ ap (λ (u : ℕ). placed (settingPlace t) (one ++ firstBytes u (16 - (t + 1))) s) (sym next)
+              ∙ ap (λ (n : ℕ). putFrom t n s) (sym count)
+              ∙ so-far .rest;
+        }
+
+    pub settings-all : 16 ≤ t → s ≡ placed 5 (firstBytes 0 16) s₀
+    unfolding eachFrom allBytes
+    settings-all done =
+        let none : 0 ≡ 16 - t = omega arith in
+        sym (placed-none (settingPlace t) s) ∙ ap (λ (n : ℕ). putFrom t n s) none ∙ so-far .rest
+
+  abbrev emptyBytes : List ℕ
+  emptyBytes = bookBytes (emptyBook quotas ids)
+
+  empty-is : emptyBytes ≡ (start ++ firstBytes 0 16) ++ zeros 12288
+  unfolding bookBytes emptyBook allBytes digits
+  empty-is = sym (append-assoc start (firstBytes 0 16) (zeros 12288))
+
+  -- the start and the settings on zeros
+  pub empty-placed : (size : ℕ) (s₁ s₂ s₃ : List ℕ) → size ≡ bookSize
+      → s₁ ≡ zeros size → s₂ ≡ placed 0 start s₁ → s₃ ≡ placed 5 (firstBytes 0 16) s₂ → s₃ ≡ emptyBytes
+  empty-placed size s₁ s₂ s₃ e e₁ e₂ e₃ =
+      let long : length s₁ ≡ 12389 = ap length e₁ ∙ length-replicate size 0 ∙ e in
+      let six : length (firstBytes 0 16) ≡ 96 = first-size 0 16 in
+      let both : length (start ++ firstBytes 0 16) ≡ 101 = simp length-append (omega arith) in
+      e₃
+      ∙ ap (placed 5 (firstBytes 0 16)) e₂
+      ∙ placed-next 0 5 start (firstBytes 0 16) s₁ refl (omega arith)
+      ∙ placed-start (start ++ firstBytes 0 16) s₁ (omega arith)
+      ∙ ap₂ (λ (n : ℕ) (l : List ℕ). (start ++ firstBytes 0 16) ++ drop n l) both e₁
+      ∙ ap (λ (l : List ℕ). (start ++ firstBytes 0 16) ++ l) (drop-zeros 101 12288 size e)
+      ∙ sym empty-is
+
+  empty-size : length emptyBytes ≡ bookSize
+  unfolding emptyBook
+  empty-size = book-size (emptyBook quotas ids) (each-count (firstSetting quotas ids) 0 16) (omega arith)
+
+  -- the answer and the book afterwards
+  abbrev pub Opened : List ℕ → ℕ → List ℕ → Type 0
+  Opened s n after = (n ≡ numberOf (answerOf (opened quotas ids s))) × (after ≡ lentAfter (opened quotas ids s) s)
+
+  pub wrong-length : (s : List ℕ) → (length s ≡ bookSize → ⊥) → Opened s 101 s
+  unfolding opened
+  wrong-length s other = (rw (ne-eqb (length s) bookSize other), rw (ne-eqb (length s) bookSize other))
+
+  pub not-given : (s : List ℕ) → length s ≡ bookSize → areGiven quotas ids ≡ false → Opened s 103 s
+  unfolding opened
+  not-given s size bad = (rw (eq-eqb (length s) bookSize size, bad), rw (eq-eqb (length s) bookSize size, bad))
+
+  pub given : (s after : List ℕ) → length s ≡ bookSize → areGiven quotas ids ≡ true → after ≡ emptyBytes → Opened s 0 after
+  unfolding opened
+  given s after size good is =
+      let nothing-left : drop (length emptyBytes) s ≡ [] = drop-of-length-le s {i = length emptyBytes} (omega (arith, empty-size)) in (
+        rw (eq-eqb (length s) bookSize size, good),
+        rw (eq-eqb (length s) bookSize size, good) (is ∙ sym (append-nil _) ∙ ap (λ (l : List ℕ). emptyBytes ++ l) (sym nothing-left)),
+      )

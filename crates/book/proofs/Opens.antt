@@ -1,0 +1,109 @@
+-- What opening writes is an undamaged book with the settings that were given and no cell.
+-- Assumes nothing.
+use mathlib.Core.Path.{_≡_, refl, sym, ap, _∙_}
+use mathlib.Core.Bool.{Bool, true, false, false≢true}
+use mathlib.Core.List.{List}
+use Prim.Native.Nat.{ℕ, _*_, _^_, _<_}
+use native.Mathlib.Omega.{arith}
+use borrow.Author.Tests.{lt-ltb, ltb-true, ltb-false, leb-true, leb-false, le-leb, lt-leb, eqb-true}
+use lib.Dec.{leb, ltb, eqb}
+use lib.ListN.{length, getD, take, drop, take-append-drop, List·getD-eq-default}
+use Rattle.text.specs.Numbers.{Below}
+use Rattle.text.specs.Characters.{isDigit, isNameCharacter, allOf}
+use Rattle.text.specs.Places.{numberAt}
+use Rattle.text.specs.Texts.{part}
+use Rattle.text.proofs.Every.{and-first, and-second, either, all-at}
+use Rattle.text.proofs.Places.{bytes-at, number-at-below}
+use Rattle.text.proofs.TextsAt.{all-append}
+use Rattle.permit.specs.Order.{demand}
+use Rattle.permit.specs.Identifiers.{isText, isServerId}
+use Rattle.permit.specs.Output.{text, refusal}
+use Rattle.tenants.specs.Rules.{isDays}
+use Rattle.tenants.specs.Together.{cellsOf, noSetting, isSetting, quotaSum, isGood}
+use Rattle.tenants.proofs.Goodness.{Good, facts-good}
+use Rattle.layout.specs.Layout.{bookSize, bookBytes}
+use Rattle.layout.proofs.Each.{each-count, each-is}
+use Rattle.layout.proofs.Promises.{good-reads-back}
+use Rattle.book.specs.Opening.{firstSetting, emptyBook, areGiven, opened}
+use Rattle.book.specs.Kept.{OpensEmpty}
+
+name-byte : (c : ℕ) → isNameCharacter c ≡ true → c < 256
+unfolding isNameCharacter isDigit
+name-byte c is =
+    either (leb c 90)
+    (λ low. omega (arith, leb-true c 90 low))
+    (λ high.
+    let above : 90 < c = leb-false c 90 high in
+    let no : false ≡ true = rw (le-leb 48 c (omega arith), lt-leb c 57 (omega arith), le-leb 65 c (omega arith), high) at is in
+    absurd (false≢true no))
+
+-- each byte of a text of such characters is one, those past its end being 0
+names-below : (s : List ℕ) → allOf isNameCharacter s ≡ true → Below 256 s
+names-below s all i =
+    either (ltb i (length s))
+    (λ inside. name-byte (getD s i 0) (all-at isNameCharacter s all i (ltb-true i (length s) inside)))
+    (λ beyond. rw (List·getD-eq-default s 0 (ltb-false i (length s) beyond)) (omega arith))
+
+all-part : (test : ℕ → Bool) (n : ℕ) (s : List ℕ) (at : ℕ) → allOf test s ≡ true → allOf test (part n s at) ≡ true
+all-part test n s at all =
+    and-first (allOf test (part n s at)) (allOf test (drop n (drop at s)))
+    (sym (all-append test (part n s at) (drop n (drop at s))) ∙ ap (allOf test) (take-append-drop n (drop at s)) ∙ behind)
+  where
+    behind : allOf test (drop at s) ≡ true
+    behind =
+        and-second (allOf test (take at s)) (allOf test (drop at s))
+        (sym (all-append test (take at s) (drop at s)) ∙ ap (allOf test) (take-append-drop at s) ∙ all)
+
+module _ (quotas ids : List ℕ) where
+  module _ (long : length ids ≡ 32) (all : allOf isNameCharacter ids ≡ true) where
+    server-given : (t : ℕ) → t < 16 → isServerId (numberAt 2 ids (2 * t)) ≡ true
+    unfolding isText
+    server-given t h =
+        rw (
+          lt-ltb (numberAt 2 ids (2 * t)) (256 ^ 2) (number-at-below 2 ids (2 * t) (names-below ids all)),
+          bytes-at 2 ids (2 * t) (names-below ids all) (omega arith),
+        )
+        (all-part isNameCharacter 2 ids (2 * t) all)
+
+    setting-given : (t : ℕ) → t < 16 → isSetting (firstSetting quotas ids t) ≡ true
+    unfolding isSetting isDays
+    setting-given t h = server-given t h
+
+-- what is given makes a good book
+given-good : (quotas ids : List ℕ) → areGiven quotas ids ≡ true → Good (emptyBook quotas ids)
+unfolding areGiven emptyBook cellsOf
+given-good quotas ids given = record {
+  sixteen = each-count (firstSetting quotas ids) 0 16;
+  each-setting = each;
+  sum = leb-true (quotaSum (emptyBook quotas ids .settings)) 512 (search (and-first, and-second));
+  count = omega arith;
+  sorted = tt;
+  each-record = tt;
+  within = λ t h. omega arith;
+}
+  where
+    long : length ids ≡ 32
+    long = eqb-true (length ids) 32 (search (and-first, and-second))
+
+    each : (t : ℕ) → t < 16 → isSetting (getD (emptyBook quotas ids .settings) t noSetting) ≡ true
+    each t h =
+        rw (each-is (firstSetting quotas ids) 16 t noSetting h) (setting-given quotas ids long (search (and-first, and-second)) t h)
+
+-- what opening answers with a book was not refused
+written : (size given : Bool) (bytes book : List ℕ) → demand size (refusal 101) (demand given (refusal 103) (text bytes)) ≡ text book
+    → (given ≡ true) × (bytes ≡ book)
+written true true bytes book made = (refl, cc)
+written true false bytes book made = (cc, cc)
+written false given bytes book made = (cc, cc)
+
+pub opened-given : (quotas ids s book : List ℕ) → opened quotas ids s ≡ text book
+    → (isGood (emptyBook quotas ids) ≡ true) × (bookBytes (emptyBook quotas ids) ≡ book)
+unfolding opened
+opened-given quotas ids s book made =
+    let it = written (eqb (length s) bookSize) (areGiven quotas ids) (bookBytes (emptyBook quotas ids)) book made in
+    (facts-good (emptyBook quotas ids) (given-good quotas ids (it .0)), it .1)
+
+pub opens-empty : OpensEmpty
+opens-empty quotas ids s book made =
+    let it = opened-given quotas ids s book made in
+    rw (it .1) at (good-reads-back (emptyBook quotas ids) (it .0))

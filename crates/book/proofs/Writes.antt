@@ -1,0 +1,48 @@
+-- Fields put one after the other are one text; the tenant's byte and the name are the full name.
+-- Assumes nothing.
+use mathlib.Core.Path.{_≡_, sym, ap, ap₂, _∙_}
+use mathlib.Core.List.{List, [], _∷_, _++_}
+use Prim.Native.Nat.{ℕ, suc, _+_, _*_, _/_, _%_, _^_, _≤_, _<_}
+use native.Mathlib.Nat.{mod-eq-of-lt, mul-add-mod-self-right}
+use native.Mathlib.Omega.{arith}
+use lib.Arith.{digits-div}
+use lib.ListN.{length, set, length-append}
+use Rattle.text.specs.Numbers.{digits, bytesOf}
+use Rattle.text.specs.Texts.{placed}
+use Rattle.text.proofs.Digits.{digits-of-low}
+use Rattle.text.proofs.PlacedTexts.{length-placed, placed-none, placed-first, placed-next}
+use Rattle.tenants.specs.Together.{fullName}
+
+-- a digit in front of n lower ones
+digit-in-front : (b n d x : ℕ) → d < b → x < b ^ n → digits b (suc n) (d * b ^ n + x) ≡ d ∷ digits b n x
+unfolding digits
+digit-in-front b n d x h g =
+    ap₂ (λ (e : ℕ) (es : List ℕ). e ∷ es)
+    (ap (λ (m : ℕ). m % b) (digits-div d g) ∙ mod-eq-of-lt h)
+    (sym (digits-of-low b n (d * b ^ n + x) (omega arith))
+    ∙ ap (digits b n) (mul-add-mod-self-right d (b ^ n) x)
+    ∙ digits-of-low b n x (omega arith))
+
+pub full-name-bytes : (t name : ℕ) → t < 256 → name < 256 ^ 8 → (t ∷ []) ++ bytesOf 8 name ≡ bytesOf 9 (fullName t name)
+full-name-bytes t name h g = sym (digit-in-front 256 8 t name h g)
+
+-- a number of one byte
+pub byte-put : (at x : ℕ) (s : List ℕ) → x < 256 → at < length s → set s at x ≡ placed at (bytesOf 1 x) s
+unfolding digits
+byte-put at x s h room =
+    let low : x / 256 ^ 0 % 256 ≡ x = omega arith in
+    sym (placed-none (suc at) (set s at x)) ∙ placed-first at x [] s (omega arith) ∙ ap (λ (v : ℕ). placed at (v ∷ []) s) (sym low)
+
+-- a text is put, and another where it ends
+module _ (at n : ℕ) (a b s s₁ s₂ : List ℕ) (first : s₁ ≡ placed at a s) (next : s₂ ≡ placed n b s₁) where
+  pub two-put : n ≡ at + length a → at + (length a + length b) ≤ length s → s₂ ≡ placed at (a ++ b) s
+  two-put e room = next ∙ ap (placed n b) first ∙ placed-next at n a b s e room
+
+  pub three-put : (m : ℕ) (d s₃ : List ℕ) → s₃ ≡ placed m d s₂ → n ≡ at + length a → m ≡ n + length b
+      → at + (length a + (length b + length d)) ≤ length s → s₃ ≡ placed at (a ++ (b ++ d)) s
+  three-put m d s₃ last e f room =
+      last
+      ∙ ap (placed m d) next
+      ∙ placed-next n m b d s₁ f (omega (arith, ap length first ∙ length-placed at a s))
+      ∙ ap (placed n (b ++ d)) first
+      ∙ placed-next at n a (b ++ d) s e (simp length-append (omega arith))

@@ -1,0 +1,84 @@
+-- `book::asking::issue_from` meets its contract: the refusals that come before the line.
+-- Assumes nothing.
+use mathlib.Core.Path.{_≡_, sym, ap, _∙_}
+use mathlib.Core.Bool.{true}
+use borrow.Author.Needs.{needs}
+use borrow.Author.Tests.{not-true, not-false, le-leb, lt-leb}
+use lib.ListN.{length}
+use Rattle.permit.specs.Register.{isRegister}
+use Rattle.permit.specs.declared.user_permit.UserPermit.{UserPermit}
+use Rattle.permit.proofs.Outputs.{refused}
+use Rattle.tenants.specs.Cells.{cellOf}
+use Rattle.tenants.specs.Rules.{lineFor}
+use Rattle.tenants.proofs.Ranges.{tenant-is, tenant-not}
+use Rattle.book.specs.OnBook.{ownIn}
+use Rattle.book.proofs.AnswerRules.{answered-same, issuing-register-damaged, issuing-outside, issuing-short, issuing-unfit, issuing-line}
+use Rattle.book.proofs.asking.issue_from.Statement.{statement}
+use Rattle.book.proofs.asking.issue_from.Tie as tie
+
+is-register-requires : tie.Need-is-register-requires
+is-register-requires c κs = search needs
+
+registered : (c : tie.Else1) → isRegister (c .before .before .before .before .before .before .args .register .now) ≡ true
+registered c = sym (c .before .is-register .ensures) ∙ not-false _ (c .if1 .left)
+
+returns : tie.Need-returns
+returns c = refused _ 109 _ (issuing-register-damaged _ _ _ _ _ _ _ _ (sym (c .before .is-register .ensures) ∙ not-true _ (c .if1 .taken)))
+
+returns-2 : tie.Need-returns-2
+returns-2 c = refused _ 102 _ (issuing-outside _ _ _ _ _ _ _ _ (registered (c .before)) (tenant-not _ (c .if2 .taken)))
+
+returns-3 : tie.Need-returns-3
+returns-3 c =
+    refused _ 108 _
+    (issuing-short _ _ _ _ _ _ _ _ (registered (c .before .before)) (tenant-is _ (c .before .if2 .left)) (lt-leb 76 _ (c .if3 .taken)))
+
+is-asked-requires : tie.Need-is-asked-requires
+is-asked-requires c κs = search needs
+
+returns-4 : tie.Need-returns-4
+returns-4 c =
+    let long = c .before .before in
+    refused _ 103 _
+    (issuing-unfit _ _ _ _ _ _ _ _ (registered (long .before .before)) (tenant-is _ (long .before .if2 .left)) (le-leb 76 _ (long .if3 .left))
+    (sym (c .before .is-asked .ensures) ∙ not-true _ (c .if4 .taken)))
+
+read-user-permit-requires : tie.Need-read-user-permit-requires
+read-user-permit-requires c κs = search needs
+
+issue-for-requires : tie.Need-issue-for-requires
+issue-for-requires c κs = search needs
+
+same-length : tie.Need-same-length
+same-length c = search needs
+
+returns-5 : tie.Need-returns-5
+returns-5 c =
+    let issued = c .before .before in
+    let read = issued .before .before in
+    let long = read .before .before .before in
+    let args = long .before .before .before .before .before .before .before .before .args in
+    let own = ownIn (args .book .now) (args .tenant) in
+    answered-same _ _ _ _ _
+    (issuing-line (args .tenant) (args .register .now) (args .name) (args .expiry) (args .level) (args .permit .now) (length (args .out .now)) own
+    (registered (long .before .before)) (tenant-is _ (long .before .if2 .left)) (le-leb 76 _ (long .if3 .left))
+    (sym (read .before .before .is-asked .ensures) ∙ not-false _ (read .before .if4 .left))
+    ∙ ap
+    (λ (ship : UserPermit). lineFor ship (cellOf (args .name) (own .cells)) (own .setting) (args .expiry) (args .level) (length (args .out .now)))
+    (sym (read .read-user-permit .ensures)))
+    (issued .issue-for .ensures)
+
+pub issue-from-spec : {M : Type 1} → statement M
+issue-from-spec =
+    tie.close
+    (tie.spec
+    is-register-requires
+    returns
+    returns-2
+    returns-3
+    is-asked-requires
+    returns-4
+    read-user-permit-requires
+    issue-for-requires
+    same-length
+    returns-5)

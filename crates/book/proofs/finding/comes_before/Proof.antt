@@ -1,0 +1,60 @@
+-- `book::finding::comes_before` meets its contract: full names go by tenant and then by name.
+-- Assumes nothing.
+use mathlib.Core.Path.{_≡_, sym, ap, _∙_}
+use mathlib.Core.List.{List}
+use Prim.Native.Nat.{ℕ, _<_}
+use native.Mathlib.Omega.{arith}
+use borrow.Author.Needs.{needs}
+use lib.Dec.{ltb}
+use lib.ListN.{getD}
+use Rattle.text.specs.Places.{numberAt}
+use Rattle.text.proofs.Places.{number-at-below}
+use Rattle.tenants.specs.Together.{names, fullName}
+use Rattle.book.proofs.RecordParts.{name-parts, other-before, own-before}
+use Rattle.book.proofs.finding.comes_before.Statement.{statement}
+use Rattle.book.proofs.finding.comes_before.Tie as tie
+
+byte-at-requires : tie.Need-byte-at-requires
+byte-at-requires c κs = search needs
+
+cast-holder : tie.Need-cast-holder
+cast-holder c = search needs
+
+module _ (known : tie.After-shared-slice-known) where
+  abbrev part : List ℕ
+  part = known .before .args .part .now
+
+  abbrev tenant : ℕ
+  tenant = known .before .args .tenant
+
+  abbrev name : ℕ
+  name = known .before .args .name
+
+  name-below : numberAt 8 part 1 < names
+  name-below = number-at-below 8 part 1 (λ k. omega (arith, known .shared-slice-known .given k))
+
+  given-below : name < names
+  given-below = search needs
+
+  parts : ltb (fullName (getD part 0 0) (numberAt 8 part 1)) (fullName tenant name) ≡ ltb (numberAt 9 part 0) (fullName tenant name)
+  parts = ap (λ (x : ℕ). ltb x (fullName tenant name)) (sym (name-parts part 0 (known .before .pre)))
+
+returns : tie.Need-returns
+returns c =
+    let known = c .before .before in
+    ap (λ (x : ℕ). ltb x (tenant known)) (c .before .byte-at .ensures)
+    ∙ other-before _ _ _ _ (name-below known) (given-below known) (λ e. c .if1 .taken (c .before .byte-at .ensures ∙ e))
+    ∙ parts known
+
+number64-requires : tie.Need-number64-requires
+number64-requires c κs = search needs
+
+returns-2 : tie.Need-returns-2
+returns-2 c =
+    let known = c .before .before .before in
+    ap (λ (x : ℕ). ltb x (name known)) (c .number64 .ensures)
+    ∙ own-before _ _ _ _ (name-below known) (given-below known) (sym (c .before .before .byte-at .ensures) ∙ c .before .if1 .left)
+    ∙ parts known
+
+pub comes-before-spec : {M : Type 1} → statement M
+comes-before-spec = tie.close (tie.spec byte-at-requires cast-holder returns number64-requires returns-2)

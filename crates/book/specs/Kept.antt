@@ -1,0 +1,49 @@
+-- What the book promises of one call: undamaged stays undamaged, others are not touched, a refusal changes nothing, what is issued reads back.
+use mathlib.Core.Path.{_≡_}
+use mathlib.Core.Bool.{true}
+use mathlib.Core.List.{List, _++_}
+use mathlib.Core.Option.{some}
+use Prim.Native.Nat.{ℕ, _≤_}
+use Rattle.dates.specs.Calendar.{isDate}
+use Rattle.permit.specs.Register.{isRegister}
+use Rattle.permit.specs.UserPermit.{readPermit}
+use Rattle.permit.specs.CellPermit.{shipWords, lineOf, lineEnd}
+use Rattle.permit.specs.ReadBack.{recordFor}
+use Rattle.permit.specs.Output.{text}
+use Rattle.permit.specs.declared.user_permit.UserPermit.the-variants.{Ship}
+use Rattle.tenants.specs.declared.Held.{Held}
+use Rattle.tenants.specs.Cells.{cellOf}
+use Rattle.tenants.specs.Rules.{isTenant, lineCell}
+use Rattle.tenants.specs.Calls.{Call, answerNumber}
+use Rattle.layout.specs.Layout.{bookOf, isBook}
+use Rattle.book.specs.Opening.{emptyBook, opened}
+use Rattle.book.specs.OnBook.{ownIn, issuedFrom, checkedBy, answerIn, bookAfter}
+
+-- undamaged stays undamaged
+abbrev pub StaysUndamaged : Type 0
+StaysUndamaged = (s : List ℕ) (t : ℕ) (call : Call) → isBook s ≡ true → isBook (bookAfter t call s) ≡ true
+
+-- a call by one tenant leaves every other tenant's cells and setting as they were
+abbrev pub OthersUntouched : Type 0
+OthersUntouched = (s : List ℕ) (t u : ℕ) (call : Call) → isBook s ≡ true → (u ≡ t → ⊥) → ownIn (bookAfter t call s) u ≡ ownIn s u
+
+-- a refusal leaves the book as it was, and so does every other answer whose number is not 0; of a damaged book too
+abbrev pub RefusalLeaves : Type 0
+RefusalLeaves = (s : List ℕ) (t : ℕ) (call : Call) → (answerNumber (answerIn t call s) ≡ 0 → ⊥) → bookAfter t call s ≡ s
+
+-- opening gives an undamaged book with these settings and no cell
+abbrev pub OpensEmpty : Type 0
+OpensEmpty =
+    (quotas ids s book : List ℕ) → opened quotas ids s ≡ text book
+    → (isBook book ≡ true) × (bookOf book ≡ emptyBook quotas ids)
+
+-- what is issued for a ship is the line of the held cell, and the tenant's own check of it answers that cell with the notice of its own days
+abbrev pub IssuedReadsBack : Type 0
+IssuedReadsBack =
+    (s register permit : List ℕ) (t name expiry level room hw m today : ℕ) (cell : Held)
+    → isBook s ≡ true → isTenant t ≡ true → isRegister register ≡ true → readPermit register permit ≡ Ship hw m
+    → cellOf name (ownIn s t .cells) ≡ some cell → isDate expiry ≡ true → level ≤ 1 → 76 ≤ room → isDate today ≡ true
+    → (issuedFrom s register t name expiry level permit room
+    ≡ text (lineOf (shipWords hw) (lineCell (ownIn s t .setting) cell expiry level) ++ lineEnd))
+    × (checkedBy s t hw today (lineOf (shipWords hw) (lineCell (ownIn s t .setting) cell expiry level))
+    ≡ recordFor today (ownIn s t .setting .days) (lineCell (ownIn s t .setting) cell expiry level))
