@@ -1,12 +1,14 @@
 /* lambukir.h
 
    Lambukir for C: S-63 user permits, cell permits and PERMIT.TXT files, with
-   the cipher and the checksum that they are made of.
+   the cipher and the checksum that they are made of, and the book of cell keys
+   that sixteen agents share.
 
    Link with liblambukir.a. It needs the C library and nothing else.
 
    Every function takes every input and comes back. None allocates, and none
-   keeps anything between calls, so threads may call them at the same time.
+   keeps anything between calls, so threads may call them at the same time; but
+   calls on one book are made one at a time (see "The book").
    None wipes the stack: what a call worked with, a key's words among it, stays
    there until something else is written over it.
 
@@ -14,9 +16,11 @@
 
    A slice is two arguments: a pointer to its first byte, and its length in
    bytes. The caller owns the bytes, before and after. A call reads them, writes
-   none but those of a slice named out, and keeps no pointer. Slices lent to one
-   call do not overlap. The pointer is not NULL, not even where the length is 0.
-   Texts have no NUL at their end; a NUL is a byte like any other.
+   none but those of a slice named out and of a book that is not const, and
+   keeps no pointer. Slices lent to one call do not overlap. The pointer is not
+   NULL, not even where the length is 0. Texts have no NUL at their end; a NUL
+   is a byte like any other. (The quotas of lambukir_open_book are the one slice
+   of other things than bytes: its length counts numbers.)
 
    Values
 
@@ -31,6 +35,8 @@
      cell name        eight of A-Z 0-9
      level            0 subscription, 1 single purchase
      edition          1 to 999
+     warning days     1 to 90
+     tenant           0 to 15
 
    A date is the number YYYYMMDD: 20240229. It is a day of the calendar of the
    years 1900 to 2999, or it is no date.
@@ -47,7 +53,11 @@
      18   the HW_ID, given or deciphered from a user permit, is none
      20   a record, and its permit expires soon
      21   the check part is right, but a key is wrongly padded
+     101  the book is damaged, or not 12,389 bytes long
+     102  the tenant is above 15
      103  another given value is out of its range; each function says which
+     104  the tenant does not hold that cell
+     105  a new cell, and the tenant's quota is used
      106  the user permit is not 28 of 0-9 A-F
      107  the M_ID is not in the register
      108  out is too short: less than 28 bytes (user permit) or 76 (line)
@@ -58,8 +68,9 @@
    next) is 0. Where there is more than one reason to refuse, the number is the
    first of the order that stands with the function.
 
-   Example: make a user permit, and read a file to its end. It prints
-   73871727080876A07E450C043031, and then 20 20000830.
+   Examples: sample/desk.c beside the sources is a short program that keeps a
+   book. Here we make a user permit, and read a file to its end. It
+   prints 73871727080876A07E450C043031, and then 20 20000830.
 
      #include <inttypes.h>
      #include <lambukir.h>
@@ -259,6 +270,124 @@ typedef struct {
 lambukir_file_line
 lambukir_read_file_line(uint64_t hw_id, uint32_t today, uint32_t days,
                         const uint8_t *file, size_t file_length, size_t place);
+
+/* The book
+
+   A book holds the cell keys of sixteen tenants, who are the agents of one
+   permit desk. It is a slice of 12,389 bytes (LAMBUKIR_BOOK_SIZE) that the
+   caller keeps, in memory and in a file; nothing else is kept anywhere.
+   lambukir_open_book makes the first one, and from then on it is changed by
+   lambukir_enter, lambukir_withdraw and lambukir_set_days alone.
+
+   A tenant is a number from 0 to 15. It has
+
+     its cells         each a name, an edition and two keys; a name once at most
+     a quota           the most cells that it may hold; the sixteen quotas sum
+                       to at most 512, so that its room is its own, whatever the
+                       others hold
+     warning days      30 at first
+     a Data Server ID  which stands in the lines that it issues
+
+   A tenant reaches its own cells alone: whatever it is answered depends on
+   these four, on the register and on what it hands in, and on nothing that
+   another tenant has or does. Calls of different tenants may be mixed in any
+   order: as long as each one's own calls keep theirs, the book at the end is
+   the same to the last byte, and so is every answer.
+
+   Every call but lambukir_open_book judges the whole book first. One of another
+   length, or with a byte that no book can have, is 101. What is judged is the
+   form: a book with other keys in it is another good book, so see to it that
+   nobody else can write yours.
+
+   How to keep a book
+
+   - Make one call at a time on a book: there is one writer, and nobody reads
+     during a call that writes (one whose book is not const). Calls that only
+     read may run side by side.
+   - After a change write the whole book to a new file beside the old one, sync
+     the new file, rename it over the old one, and sync their directory; then
+     tell the tenant that it is done. A crash leaves the old book or the new
+     one, and never a part of either.
+   - After a refusal there is nothing to write: every byte is as it was.
+   - A book that gives 101 stays damaged. Take the last good copy. */
+
+#define LAMBUKIR_BOOK_SIZE 12389
+
+/* Makes an empty book: no cells, warning days 30, and for tenant t the quota
+   quotas[t] and the Data Server ID that stands at ids + 2 * t. What was in the
+   book before is neither looked at nor kept.
+
+   quotas is sixteen numbers (quotas_length is 16, not 32), and ids 32 bytes.
+   Two tenants may have the same Data Server ID.
+
+   Refusals, in this order: 101, book is not LAMBUKIR_BOOK_SIZE bytes; 103, not
+   sixteen quotas, they sum to more than 512, not 32 bytes of ids, or a
+   character of them is not A-Z 0-9. */
+uint32_t
+lambukir_open_book(uint8_t *book, size_t book_length,
+                   const uint16_t *quotas, size_t quotas_length,
+                   const uint8_t *ids, size_t ids_length);
+
+/* Enters a cell, and answers 0. Where the tenant holds one of that name, its
+   edition and keys are replaced, and the quota does not matter.
+
+   Refusals, in this order: 101; 102; 103, name, edition or a key is none; 105,
+   the name is new, and the tenant holds as many cells as its quota allows. */
+uint32_t
+lambukir_enter(uint8_t *book, size_t book_length, uint32_t tenant,
+               uint64_t name, uint32_t edition,
+               uint64_t key_one, uint64_t key_two);
+
+/* Takes a cell out of the book, and answers 0. Its room is free at once, for
+   the same tenant, and its keys are no longer in the book.
+
+   Refusals, in this order: 101; 102; 103, name is none; 104. */
+uint32_t
+lambukir_withdraw(uint8_t *book, size_t book_length, uint32_t tenant,
+                  uint64_t name);
+
+/* Sets the tenant's own warning days, and answers 0.
+
+   Refusals, in this order: 101; 102; 103, days is not 1 to 90. */
+uint32_t
+lambukir_set_days(uint8_t *book, size_t book_length, uint32_t tenant,
+                  uint32_t days);
+
+typedef struct {
+  uint32_t edition;
+  uint32_t number;
+} lambukir_edition;
+
+/* The edition of a cell that the tenant holds, and number 0.
+
+   Refusals, in this order: 101; 102; 103, name is none; 104. */
+lambukir_edition
+lambukir_ask_edition(const uint8_t *book, size_t book_length, uint32_t tenant,
+                     uint64_t name);
+
+/* Issues a line for the ship that a user permit names, to the start of out: the
+   line that lambukir_write_line writes for the ship's HW_ID, with keys and
+   edition of the tenant's cell and with the tenant's Data Server ID.
+
+   Refusals, in this order: 101; 109; 102; 108, out has less than 76 bytes; 103,
+   name, expiry or level is none; 106; 17; 107; 18, all four of the user permit;
+   104. */
+lambukir_written
+lambukir_issue(const uint8_t *book, size_t book_length,
+               const uint8_t *reg, size_t reg_length,
+               uint32_t tenant, uint64_t name, uint32_t expiry, uint32_t level,
+               const uint8_t *permit, size_t permit_length,
+               uint8_t *out, size_t out_length);
+
+/* Reads one line, given without its CR LF, as lambukir_read_line does, with the
+   tenant's own warning days. The line need not be one that the tenant issued,
+   and its Data Server ID may be another.
+
+   Refusals, in this order: 101; 102; 18; 14; 12; 13; 21. */
+lambukir_line
+lambukir_check(const uint8_t *book, size_t book_length, uint32_t tenant,
+               uint64_t hw_id, uint32_t today,
+               const uint8_t *line, size_t line_length);
 
 /* The checksum and the cipher */
 

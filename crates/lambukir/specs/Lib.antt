@@ -1,3 +1,4 @@
 pub mod Blocks
 pub mod Permits
 pub mod Files
+pub mod Books

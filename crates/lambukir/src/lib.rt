@@ -3,6 +3,7 @@ ghost use mathlib.Core.Path.{_≡_};
 ghost use Rattle.crc32.specs.Crc32.{crc32Of};
 ghost use Rattle.lambukir.specs.Blocks.{encipherBlock, decipherBlock};
 
+pub mod books; // books.rt: the shared book
 pub mod files; // files.rt: permit files
 pub mod permits; // permits.rt: user permits and lines
 

@@ -64,7 +64,7 @@ fn user_permit_read(answer: UserPermit) -> UserPermitRead
     }
 }
 
-fn line_read(answer: Line) -> LineRead
+pub(crate) fn line_read(answer: Line) -> LineRead
     ensures { λ r. ⌜ r ≡ lineRead answer ⌝ }
 {
     match answer {
@@ -91,7 +91,7 @@ fn line_read(answer: Line) -> LineRead
     }
 }
 
-fn text_written(answer: Written) -> TextWritten
+pub(crate) fn text_written(answer: Written) -> TextWritten
     ensures { λ r. ⌜ r ≡ textWritten answer ⌝ }
 {
     match answer {

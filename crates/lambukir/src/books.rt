@@ -1,0 +1,108 @@
+// The book for C.
+ghost use mathlib.Core.Path.{_≡_};
+ghost use lib.ListN.{length};
+ghost use Rattle.permit.specs.Output.{answerOf, lentAfter};
+ghost use Rattle.permit.specs.Output as output;
+ghost use Rattle.tenants.specs.Rules.{numberOf};
+ghost use Rattle.book.specs.Opening.{opened};
+ghost use Rattle.book.specs.OnBook.{entry, withdrawal, newDays, bytesAfter, editionIn, issuedFrom, checkedBy};
+ghost use Rattle.lambukir.specs.Permits.{lineRead, textWritten};
+ghost use Rattle.lambukir.specs.Books.{heldOf, editionAsked};
+use super::permits::LineRead;
+use super::permits::TextWritten;
+use super::permits::line_read;
+use super::permits::text_written;
+use tenants::Asked;
+use tenants::Held;
+
+// lambukir_edition of the header.
+#[repr(C)]
+pub struct EditionAsked {
+    pub edition: u32,
+    pub number: u32,
+}
+
+#[no_mangle]
+pub extern "C" fn lambukir_open_book(book: &mut [u8], quotas: &[u16], ids: &[u8]) -> u32
+    ensures { λ r. ⌜ (r ≡ output.numberOf (answerOf (opened (now (quotas .entry)) (now (ids .entry)) (now (book .entry)))))
+        × (now (book .exit) ≡ lentAfter (opened (now (quotas .entry)) (now (ids .entry)) (now (book .entry))) (now (book .entry))) ⌝ }
+{
+    book::opening::open_book(book, quotas, ids)
+}
+
+#[no_mangle]
+pub extern "C" fn lambukir_enter(
+    book: &mut [u8],
+    tenant: u32,
+    name: u64,
+    edition: u32,
+    key1: u64,
+    key2: u64,
+) -> u32
+    ensures { λ r. ⌜ (r ≡ numberOf (entry (now (book .entry)) tenant (heldOf name edition key1 key2)))
+        × (now (book .exit) ≡ bytesAfter tenant (entry (now (book .entry)) tenant (heldOf name edition key1 key2)) (now (book .entry))) ⌝ }
+{
+    let cell = Held {
+        name,
+        edition,
+        key1,
+        key2,
+    };
+    book::changing::enter(book, tenant, cell)
+}
+
+#[no_mangle]
+pub extern "C" fn lambukir_withdraw(book: &mut [u8], tenant: u32, name: u64) -> u32
+    ensures { λ r. ⌜ (r ≡ numberOf (withdrawal (now (book .entry)) tenant name))
+        × (now (book .exit) ≡ bytesAfter tenant (withdrawal (now (book .entry)) tenant name) (now (book .entry))) ⌝ }
+{
+    book::changing::withdraw(book, tenant, name)
+}
+
+#[no_mangle]
+pub extern "C" fn lambukir_set_days(book: &mut [u8], tenant: u32, days: u32) -> u32
+    ensures { λ r. ⌜ (r ≡ numberOf (newDays (now (book .entry)) tenant days))
+        × (now (book .exit) ≡ bytesAfter tenant (newDays (now (book .entry)) tenant days) (now (book .entry))) ⌝ }
+{
+    book::changing::set_days(book, tenant, days)
+}
+
+#[no_mangle]
+pub extern "C" fn lambukir_ask_edition(book: &[u8], tenant: u32, name: u64) -> EditionAsked
+    ensures { λ r. ⌜ r ≡ editionAsked (editionIn (now (book .entry)) tenant name) ⌝ }
+{
+    match book::asking::ask_edition(book, tenant, name) {
+        Asked::Edition(edition) => EditionAsked { edition, number: 0 },
+        Asked::Refused(number) => EditionAsked { edition: 0, number },
+    }
+}
+
+#[no_mangle]
+pub extern "C" fn lambukir_issue(
+    book: &[u8],
+    register: &[u8],
+    tenant: u32,
+    name: u64,
+    expiry: u32,
+    level: u32,
+    permit: &[u8],
+    out: &mut [u8],
+) -> TextWritten
+    ensures { λ r. ⌜ (r ≡ textWritten (answerOf (issuedFrom (now (book .entry)) (now (register .entry)) tenant name expiry level (now (permit .entry)) (length (now (out .entry))))))
+        × (now (out .exit) ≡ lentAfter (issuedFrom (now (book .entry)) (now (register .entry)) tenant name expiry level (now (permit .entry)) (length (now (out .entry)))) (now (out .entry))) ⌝ }
+{
+    text_written(book::asking::issue(book, register, tenant, name, expiry, level, permit, out))
+}
+
+#[no_mangle]
+pub extern "C" fn lambukir_check(
+    book: &[u8],
+    tenant: u32,
+    hw: u64,
+    today: u32,
+    line: &[u8],
+) -> LineRead
+    ensures { λ r. ⌜ r ≡ lineRead (checkedBy (now (book .entry)) tenant hw today (now (line .entry))) ⌝ }
+{
+    line_read(book::asking::check(book, tenant, hw, today, line))
+}
