@@ -9,6 +9,7 @@ use Rattle.permit.specs.Identifiers.{isText, hwId6}
 use Rattle.permit.specs.UserPermit.{mIdPart}
 use Rattle.permit.specs.Line.{givenNumber}
 use Rattle.dates.proofs.Left.{same-day}
+use Rattle.book.proofs.FirstCell.{first-cell}
 use Rattle.known_values.specs.Rows.{Holds, EachHolds, rows, sameDay}
 
 same-day-holds : Holds (sameDay (pos 0) 20)
@@ -19,7 +20,7 @@ infixr 5 _and_
 _and_ : {A B : Type 0} → A → B → A × B
 a and b = (a, b)
 
--- P1 to P11, in the table's order: antt computes all but P5
+-- P1 to P12, in the table's order: antt computes all but P5 and P12
 pub known : EachHolds rows
 unfolding year month day isLeap monthLengths daysIn within isDate multiplesBelow daysBeforeYear sum daysBeforeMonth dayNumber daysLeft noticeOf digits hexCharacter isDigit isUpperHex allOf isText hwId6 mIdPart givenNumber
 known =
@@ -34,4 +35,5 @@ known =
     and refl
     and refl
     and (λ today days. refl)
+    and (λ quotas ids s book t cell made tenant roomy held. first-cell quotas ids t cell tenant roomy held s book made)
     and tt

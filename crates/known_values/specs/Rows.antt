@@ -1,14 +1,21 @@
 -- The table of known values as one list, and what each of its rows says of the definitions. Warning days are 30.
-use Prim.Native.Nat.{ℕ}
+use Prim.Native.Nat.{ℕ, _<_}
 use mathlib.Core.Path.{_≡_}
 use mathlib.Core.Bool.{true, false}
 use mathlib.Core.List.{List, [], _∷_}
 use lib.IntN.{ℤ, pos, negℤ}
+use lib.ListN.{getD}
+use Rattle.text.specs.Places.{numberAt}
 use Rattle.dates.specs.Calendar.{isDate}
 use Rattle.dates.specs.Notice.{daysLeft, noticeOf, numberOf}
 use Rattle.permit.specs.Identifiers.{hwId6}
 use Rattle.permit.specs.UserPermit.{mIdPart}
 use Rattle.permit.specs.Line.{givenNumber}
+use Rattle.permit.specs.Output.{text}
+use Rattle.tenants.specs.declared.Held.{Held}
+use Rattle.tenants.specs.Rules.{isTenant, isHeld}
+use Rattle.book.specs.Opening.{opened}
+use Rattle.book.specs.OnBook.{entry, bytesAfter}
 
 -- the kinds of rows, with what is given and then the result
 pub data Row : Type 0 where
@@ -20,6 +27,7 @@ pub data Row : Type 0 where
   sixBytes : (given : ℕ) (hwId6 : List ℕ) → Row
   inHex : (given : ℕ) (characters : List ℕ) → Row
   refusedHwId : (given : ℕ) (number : ℕ) → Row
+  usedAfterEntering : (used : ℕ) → Row
 
 -- the table
 abbrev pub rows : List Row
@@ -46,13 +54,20 @@ rows =
     ∷ inHex 0x4142 (52 ∷ 49 ∷ 52 ∷ 50 ∷ [])
     -- P11: 1234G
     ∷ refusedHwId 0x3132333447 18
+    -- P12: one cell entered in an opened book
+    ∷ usedAfterEntering 125
     ∷ []
 
 -- the number that comes back for an expiry, at 30 warning days
 abbrev pub numberAt30 : ℕ → ℕ → ℕ
 numberAt30 today expiry = numberOf (noticeOf (daysLeft today expiry) 30)
 
--- what a row says; that of the same day is for every day, that of the refused HW_ID for every today and every warning days
+-- the used length that a book tells
+abbrev pub usedIn : List ℕ → ℕ
+usedIn book = numberAt 4 book 1
+
+-- what a row says; that of the same day is for every day, that of the refused HW_ID for every today and every warning days,
+-- that of the entered cell for every opened book, every tenant whose quota is above 0 and every cell
 abbrev pub Holds : Row → Type 0
 Holds (leftAndNumber today expiry left number) = (daysLeft today expiry ≡ left) × (numberAt30 today expiry ≡ number)
 Holds (sameDay left number) = (today : ℕ) → (daysLeft today today ≡ left) × (numberAt30 today today ≡ number)
@@ -62,6 +77,10 @@ Holds (leftAlone today expiry left) = daysLeft today expiry ≡ left
 Holds (sixBytes given bytes) = hwId6 given ≡ bytes
 Holds (inHex given characters) = mIdPart given ≡ characters
 Holds (refusedHwId given number) = (today days : ℕ) → givenNumber given today days ≡ number
+Holds (usedAfterEntering used) =
+    (quotas ids s book : List ℕ) (t : ℕ) (cell : Held)
+    → opened quotas ids s ≡ text book → isTenant t ≡ true → 0 < getD quotas t 0 → isHeld cell ≡ true
+    → usedIn (bytesAfter t (entry book t cell) book) ≡ used
 
 -- each row of a list holds
 abbrev pub EachHolds : List Row → Type 0
