@@ -1,6 +1,6 @@
-# make run      prove the look-through and run it on the sample PERMIT.TXT
+# make run      prove look-through and library, look through the sample PERMIT.TXT, and show the desk at work
 # make test     the whole gate: every proof, then the comparisons with programs of others
-# make bench    our cipher, checksum, permits and look-through beside OpenSSL's, zlib's and plain C
+# make bench    our cipher, checksum, permits, book and look-through beside OpenSSL's, zlib's and plain C
 # make lib      target/staticlib/liblambukir.a and target/include/lambukir.h, for C
 # make install  the library, its header and its pkg-config file below PREFIX, or below DESTDIR and PREFIX
 
@@ -8,16 +8,17 @@ CC = gcc
 CFLAGS = -std=c11 -O2 -Wall -Wextra -Werror
 LDLIBS = target/staticlib/liblambukir.a target/staticlib/libprobe.a -lcrypto -lz
 PREFIX = /usr/local
-VERSION = 0.3.0
+VERSION = 0.4.0
 
-COMPARISONS = blowfish crc32 dates files lines look_through permits text writing
-MODEL = target/tests/model.o target/tests/model_file.o
+COMPARISONS = blowfish book crc32 dates files lines look_through permits text writing
+MODEL = target/tests/model.o target/tests/model_book.o target/tests/model_file.o
 
 .PHONY: run test bench lib install packages probe look_through comparisons
 .NOTPARALLEL:
 
-run: look_through
+run: look_through target/sample/desk
 	@sample/look_through
+	@target/sample/desk
 
 test:
 	@tests/run
@@ -35,7 +36,7 @@ install: lib
 	install -m 644 include/lambukir.h '$(DESTDIR)$(PREFIX)/include/lambukir.h'
 	install -m 644 target/staticlib/liblambukir.a '$(DESTDIR)$(PREFIX)/lib/liblambukir.a'
 	printf '%s\n' 'prefix=$(PREFIX)' 'includedir=$${prefix}/include' 'libdir=$${prefix}/lib' '' \
-		'Name: lambukir' 'Description: S-63 user permits, cell permits and PERMIT.TXT files' 'Version: $(VERSION)' \
+		'Name: lambukir' 'Description: S-63 user permits, cell permits, PERMIT.TXT files and the book of cell keys' 'Version: $(VERSION)' \
 		'Cflags: -I$${includedir}' 'Libs: -L$${libdir} -llambukir' >'$(DESTDIR)$(PREFIX)/lib/pkgconfig/lambukir.pc'
 
 # what the comparisons and the benchmark need of others
@@ -49,6 +50,10 @@ probe:
 look_through:
 	rt check look_through
 
+target/sample/desk: sample/desk.c packages lib
+	mkdir -p $(@D)
+	$(CC) $(CFLAGS) -Itarget/include -o $@ $< target/staticlib/liblambukir.a
+
 comparisons: $(COMPARISONS:%=target/tests/%)
 
 target/tests/%.o: tests/%.c $(wildcard tests/*.h) packages lib
@@ -58,9 +63,9 @@ target/tests/%.o: tests/%.c $(wildcard tests/*.h) packages lib
 target/tests/%: tests/%.c $(wildcard tests/*.h) $(MODEL) lib probe
 	$(CC) $(CFLAGS) -Itarget/include -o $@ $< $(MODEL) $(LDLIBS)
 
-target/bench/bench: bench/bench.c $(wildcard bench/*.h tests/*.h) $(MODEL) lib probe look_through
+target/bench/bench: bench/bench.c bench/book.c $(wildcard bench/*.h tests/*.h) $(MODEL) lib probe look_through
 	mkdir -p $(@D)
-	$(CC) $(CFLAGS) -Itarget/include -Itests -o $@ $< $(MODEL) $(LDLIBS)
+	$(CC) $(CFLAGS) -Itarget/include -Itests -o $@ $< bench/book.c $(MODEL) $(LDLIBS)
 
 # with OpenSSL and zlib in it, so that both programs load the C library and nothing else
 target/bench/look_through: bench/look_through.c $(MODEL) lib

@@ -6,10 +6,9 @@
 #define USER_PERMIT 28
 #define CELL_PERMIT 64
 #define CHECKED 48 /* the characters under a cell permit's check */
-#define WRITTEN_LINE 76
 #define SHORTEST_LINE (CELL_PERMIT + 7) /* commas, level and Data Server ID; edition and comment blank */
 
-static bool is_register(const uint8_t *reg, size_t length)
+bool is_register(const uint8_t *reg, size_t length)
 {
     uint64_t m_key;
     if (length % ENTRY != 0 || length > LONGEST_REGISTER)
@@ -56,11 +55,9 @@ uint32_t model_make_user_permit(const uint8_t *reg, size_t reg_length, uint64_t 
     return 0;
 }
 
-lambukir_user_permit model_read_user_permit(const uint8_t *reg, size_t reg_length, const uint8_t *permit, size_t permit_length)
+lambukir_user_permit read_by_register(const uint8_t *reg, size_t reg_length, const uint8_t *permit, size_t permit_length)
 {
     uint64_t enciphered, crc, m_id;
-    if (!is_register(reg, reg_length))
-        return (lambukir_user_permit){.number = 109};
     if (permit_length != USER_PERMIT || !read_hex(permit, 16, &enciphered) || !read_hex(permit + 16, 8, &crc) || !read_hex(permit + 24, 4, &m_id))
         return (lambukir_user_permit){.number = 106};
     if (crc != crc32(0, permit, 16))
@@ -74,6 +71,13 @@ lambukir_user_permit model_read_user_permit(const uint8_t *reg, size_t reg_lengt
     if (!is_padded_five(block) || !is_hw_id(block >> 24))
         return (lambukir_user_permit){.number = 18};
     return (lambukir_user_permit){.hw_id = block >> 24, .m_id = (uint32_t)m_id};
+}
+
+lambukir_user_permit model_read_user_permit(const uint8_t *reg, size_t reg_length, const uint8_t *permit, size_t permit_length)
+{
+    if (!is_register(reg, reg_length))
+        return (lambukir_user_permit){.number = 109};
+    return read_by_register(reg, reg_length, permit, permit_length);
 }
 
 /* The first 64 characters of a line. */
@@ -167,14 +171,6 @@ void model_cell_permit_of(uint64_t hw_id, uint64_t name, uint32_t expiry, uint64
     write_hex(out + 16, 16, encipher(&hw_id6, block_one));
     write_hex(out + 32, 16, encipher(&hw_id6, block_two));
     write_hex(out + 48, 16, encipher(&hw_id6, pad_four(crc32(0, out, CHECKED))));
-}
-
-/* The number's identifier has so many characters of A-Z 0-9. */
-static bool is_name_number(uint64_t value, size_t length)
-{
-    uint8_t text[8];
-    bytes_of(text, length, value);
-    return number_of(text, length) == value && is_name(text, length);
 }
 
 lambukir_written model_write_line(uint64_t hw_id, uint64_t name, uint32_t expiry, uint64_t key_one, uint64_t key_two, uint32_t level,

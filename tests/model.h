@@ -3,6 +3,8 @@
 #ifndef MODEL_H
 #define MODEL_H
 
+#include <stdbool.h>
+
 #include "lambukir.h"
 
 /* The calls of lambukir.h, with the same arguments and answers. */
@@ -19,6 +21,36 @@ lambukir_file_line model_read_file_line(uint64_t hw_id, uint32_t today, uint32_t
 #define MODEL_INPUT 65536 /* the longest input that is not refused */
 #define MODEL_REPORT 600000 /* more than the longest report: 32,739 lines of 18 bytes, and the totals */
 size_t model_look_through(const uint8_t *input, size_t length, uint8_t *report);
+
+/* The book as lists: what each tenant holds, in name order. */
+#define MODEL_TENANTS 16
+typedef struct {
+    uint64_t name, key_one, key_two;
+    uint32_t edition;
+} model_cell;
+typedef struct {
+    uint32_t quota, days, server;
+    size_t held;
+    model_cell cells[512]; /* the first `held` of them */
+} model_tenant;
+typedef struct {
+    model_tenant tenants[MODEL_TENANTS];
+} model_book;
+
+/* Whether these bytes are an undamaged book; the bytes of the lists, and the lists of an undamaged book. */
+bool model_is_book(const uint8_t *book, size_t length);
+void model_bytes_of_book(const model_book *b, uint8_t book[LAMBUKIR_BOOK_SIZE]);
+void model_book_of_bytes(const uint8_t book[LAMBUKIR_BOOK_SIZE], model_book *b);
+
+/* The calls on lists: no damage there, and no 101 but at opening. */
+uint32_t model_open_book(model_book *b, size_t book_length, const uint16_t *quotas, size_t quotas_length, const uint8_t *ids, size_t ids_length);
+uint32_t model_enter(model_book *b, uint32_t tenant, uint64_t name, uint32_t edition, uint64_t key_one, uint64_t key_two);
+uint32_t model_withdraw(model_book *b, uint32_t tenant, uint64_t name);
+uint32_t model_set_days(model_book *b, uint32_t tenant, uint32_t days);
+lambukir_edition model_ask_edition(const model_book *b, uint32_t tenant, uint64_t name);
+lambukir_written model_issue(const model_book *b, const uint8_t *reg, size_t reg_length, uint32_t tenant, uint64_t name, uint32_t expiry,
+                             uint32_t level, const uint8_t *permit, size_t permit_length, uint8_t *out, size_t out_length);
+lambukir_line model_check(const model_book *b, uint32_t tenant, uint64_t hw_id, uint32_t today, const uint8_t *line, size_t line_length);
 
 /* Permits with a right CRC over blocks of any kind, to make those that are refused for what is in a block. */
 void model_user_permit_of(const uint8_t *m_key, uint64_t block, uint32_t m_id, uint8_t out[28]);

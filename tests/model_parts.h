@@ -12,6 +12,7 @@
 
 #define HW_ID_LENGTH 5
 #define LONGEST_LINE 160 /* without CR LF */
+#define WRITTEN_LINE 76 /* the room that a written line asks for */
 
 /* One more than the value of a character; 0 for what is no hex character. */
 static const uint8_t hex_values[256] = {
@@ -92,6 +93,14 @@ static inline void bytes_of(uint8_t *out, size_t length, uint64_t value)
         out[i] = (uint8_t)value;
 }
 
+/* The number's identifier has so many characters of A-Z 0-9. */
+static inline bool is_name_number(uint64_t value, size_t length)
+{
+    uint8_t text[8];
+    bytes_of(text, length, value);
+    return number_of(text, length) == value && is_name(text, length);
+}
+
 /* Of a month from 1 to 12. */
 static inline uint32_t month_length(uint32_t year, uint32_t month)
 {
@@ -163,6 +172,9 @@ static inline uint32_t refuse_given(uint64_t hw_id, uint32_t today, uint32_t day
         return 14;
     return days < 1 || days > 90 ? 103 : 0;
 }
+
+bool is_register(const uint8_t *reg, size_t length);
+lambukir_user_permit read_by_register(const uint8_t *reg, size_t reg_length, const uint8_t *permit, size_t permit_length); /* of a good register */
 
 /* A line taken apart, its blocks still enciphered. */
 typedef struct {

@@ -1,0 +1,157 @@
+/* Books of all kinds: the one at hand as bytes and as the model's lists, filled at random; and copies that break a rule. */
+#ifndef BOOKS_H
+#define BOOKS_H
+
+#include "book_calls.h"
+
+#define SETTINGS 5 /* where they begin in a book, and how long each is */
+#define SETTING 6
+#define RECORDS 101
+#define RECORD_SIZE 24
+#define MOST 512 /* records in a book */
+#define DAYS_AT 2 /* in a setting */
+#define ID_AT 3
+#define SPARE_AT 5
+#define NAME_AT 1 /* in a record */
+#define EDITION_AT 9
+#define ZEROS_AT 21
+
+static model_book lists, changed; /* the lists of the book, and those of a changed copy */
+static uint8_t book[BOOK_ROOM], copy[BOOK_ROOM];
+static uint16_t quotas[TENANTS];
+static uint8_t ids[2 * TENANTS];
+
+static inline void some_ids(void)
+{
+    for (size_t i = 0; i < sizeof ids; i++)
+        ids[i] = (uint8_t)NAMES[random_below(sizeof NAMES - 1)];
+}
+
+/* Quotas of a sum: alike, or few tenants with much. */
+static inline void some_quotas(uint32_t sum)
+{
+    int alike = random_below(2) == 0;
+    for (size_t t = 0; t < TENANTS; t++)
+        quotas[t] = alike ? (uint16_t)(sum / TENANTS) : 0;
+    for (sum -= alike ? sum / TENANTS * TENANTS : 0; sum > 0;) {
+        uint32_t add = 1 + (uint32_t)random_below(sum);
+        quotas[random_below(TENANTS)] += (uint16_t)add;
+        sum -= add;
+    }
+}
+
+/* The lists of an empty book with these quotas; warning days of all kinds. */
+static inline void open_lists(void)
+{
+    some_ids();
+    model_open_book(&lists, BOOK, quotas, TENANTS, ids, sizeof ids);
+    for (uint32_t t = 0; t < TENANTS; t++)
+        model_set_days(&lists, t, some_days());
+}
+
+/* A name that the tenant does not hold, often one that is near to a held one. */
+static inline uint64_t absent_name(uint32_t tenant)
+{
+    const model_tenant *t = &lists.tenants[tenant];
+    for (;;) {
+        uint64_t name = t->held > 0 && random_below(2) ? near_name(t->cells[random_below(t->held)].name) : some_name();
+        if (model_ask_edition(&lists, tenant, name).number == 104)
+            return name;
+    }
+}
+
+static inline uint64_t held_name(uint32_t tenant)
+{
+    const model_tenant *t = &lists.tenants[tenant];
+    return t->cells[random_below(t->held)].name;
+}
+
+/* Lets a tenant hold so many cells, in the lists. */
+static inline void fill(uint32_t tenant, size_t count)
+{
+    while (lists.tenants[tenant].held < count)
+        model_enter(&lists, tenant, absent_name(tenant), 1 + (uint32_t)random_below(999), some_key(), some_key());
+}
+
+/* A book with so many records, and with quotas of a sum that allows them. */
+static inline void some_book(uint32_t records, uint32_t quotas_sum)
+{
+    some_quotas(quotas_sum);
+    open_lists();
+    for (; records > 0; records--) {
+        uint32_t tenant = (uint32_t)random_below(TENANTS);
+        while (lists.tenants[tenant].held >= quotas[tenant])
+            tenant = (tenant + 1) % TENANTS;
+        fill(tenant, lists.tenants[tenant].held + 1);
+    }
+    model_bytes_of_book(&lists, book);
+}
+
+/* Of the book. */
+static inline size_t record_count(void)
+{
+    return ((size_t)book[3] * 256 + book[4] - RECORDS) / RECORD_SIZE;
+}
+
+static inline void put16(uint8_t *at, size_t value)
+{
+    at[0] = (uint8_t)(value >> 8);
+    at[1] = (uint8_t)value;
+}
+
+static inline void exchange(uint8_t *record)
+{
+    uint8_t first[RECORD_SIZE];
+    memcpy(first, record, RECORD_SIZE);
+    memcpy(record, record + RECORD_SIZE, RECORD_SIZE);
+    memcpy(record + RECORD_SIZE, first, RECORD_SIZE);
+}
+
+static inline size_t quota_sum(void)
+{
+    size_t sum = 0;
+    for (size_t t = 0; t < TENANTS; t++)
+        sum += lists.tenants[t].quota;
+    return sum;
+}
+
+/* Breaks one rule of a copy of the book, which has two records at least; the answer is the copy's length. */
+static inline size_t spoil_book(uint8_t *b)
+{
+    size_t n = record_count();
+    uint8_t *setting = b + SETTINGS + random_below(TENANTS) * SETTING;
+    uint8_t *record = b + RECORDS + random_below(n - 1) * RECORD_SIZE, *end = b + RECORDS + n * RECORD_SIZE;
+    switch (random_below(18)) {
+    case 0: b[0] = (uint8_t)(2 + random_below(255)); break;
+    case 1: b[1 + random_below(2)]++; break;
+    case 2: b[4] = (uint8_t)(b[4] + 1 + random_below(23)); break;
+    case 3: put16(b + 3, RECORDS + random_below(n) * RECORD_SIZE); break;
+    case 4: put16(b + 3, RECORDS + (n + 1) * RECORD_SIZE); break;
+    case 5: put16(setting, MOST + 1 - quota_sum() + setting[0] * 256u + setting[1]); break;
+    case 6: put16(b + SETTINGS + record[0] * SETTING, lists.tenants[record[0]].held - 1); break;
+    case 7: setting[DAYS_AT] = (uint8_t)(random_below(2) ? 0 : 91 + random_below(165)); break;
+    case 8: setting[ID_AT + random_below(2)] = (uint8_t)NO_NAMES[random_below(sizeof NO_NAMES)]; break;
+    case 9: setting[SPARE_AT] = (uint8_t)(1 + random_below(255)); break;
+    case 10: end[-RECORD_SIZE] = (uint8_t)(16 + random_below(240)); break;
+    case 11: record[NAME_AT + random_below(8)] = (uint8_t)NO_NAMES[random_below(sizeof NO_NAMES)]; break;
+    case 12: put16(record + EDITION_AT, random_below(2) ? 0 : 1000 + random_below(64536)); break;
+    case 13: record[ZEROS_AT + random_below(3)] = (uint8_t)(1 + random_below(255)); break;
+    case 14: exchange(record); break;
+    case 15: memcpy(record + RECORD_SIZE, record, EDITION_AT); break;
+    case 16: return random_below(2) ? random_below(BOOK) : BOOK + 1 + random_below(BOOK_ROOM - BOOK);
+    default: b[n < MOST ? RECORDS + n * RECORD_SIZE + random_below((MOST - n) * RECORD_SIZE) : 0] |= 2;
+    }
+    return BOOK;
+}
+
+/* A call on a damaged copy of the book: 101, and the copy stays as it is. */
+static inline void compare_damaged(const call *c)
+{
+    memset(copy + BOOK, 0, BOOK_ROOM - BOOK);
+    memcpy(copy, book, BOOK);
+    size_t length = spoil_book(copy);
+    same((uint64_t)model_is_book(copy, length), 0, "%s: damaged by the model", about);
+    expect(compare_call(copy, length, &lists, c).number, 101);
+}
+
+#endif
