@@ -6,6 +6,8 @@
      decipher      the same
      CRC-32        48 bytes, as of a cell permit, another 48 each time
      permits       the calls of lambukir.h beside the model's of tests/, see permits.h
+     book          the calls of lambukir.h beside book.h's, written by hand in C, see desk.h: enter and then withdraw, two calls, in a book with
+                   511 records; the others in a full one; judging is asking for a cell that is not there
      look-through  the program beside bench/look_through.c, each a process of its own: from before its start until it has ended;
                    both load the C library and nothing else, since OpenSSL and zlib are linked into the C program
 
@@ -15,6 +17,7 @@
 #include <openssl/blowfish.h>
 #include <zlib.h>
 
+#include "desk.h"
 #include "measure.h"
 #include "permits.h"
 #include "probe.h"
@@ -110,6 +113,15 @@ int main(void)
     measure("read line", our_line, their_line, "plain C", 20);
     measure("write line", our_write, their_write, "plain C", 20);
     measure("read file line", our_file_line, their_file_line, "plain C", 20);
+    if (!make_books()) {
+        puts("the books differ: no more is measured");
+        return 1;
+    }
+    measure("enter, withdraw", our_enter, their_enter, "plain C", 40);
+    measure("ask edition", our_edition, their_edition, "plain C", 80);
+    measure("judge a book", our_judged, their_judged, "plain C", 80);
+    measure("issue", our_issue, their_issue, "plain C", 20);
+    measure("check", our_check, their_check, "plain C", 20);
     put_look_through(65000);
     measure("look-through 65000", our_look_through, their_look_through, "plain C", 1);
     put_look_through(0);

@@ -34,4 +34,17 @@ static inline void measure(const char *name, void (*ours)(int), void (*theirs)(i
     printf("%-18s ours %9.1f ns   %-8s %9.1f ns   ratio %.2f\n", name, best[0], whose, best[1], best[0] / best[1]);
 }
 
+/* Two functions that run the same calls, of the library and of another's. */
+#define BOTH(other, name, call)                                                                                                                  \
+    static void our_##name(int calls)                                                                                                            \
+    {                                                                                                                                            \
+        for (int i = 0; i < calls; i++)                                                                                                          \
+            sum += lambukir_##call;                                                                                                              \
+    }                                                                                                                                            \
+    static void their_##name(int calls)                                                                                                          \
+    {                                                                                                                                            \
+        for (int i = 0; i < calls; i++)                                                                                                          \
+            sum += other##_##call;                                                                                                               \
+    }
+
 #endif

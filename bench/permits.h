@@ -39,26 +39,13 @@ static void make_samples(void)
     }
 }
 
-/* Each pair of functions runs the same calls, of the library and of the model. */
-#define BOTH(name, call)                                                                                                                         \
-    static void our_##name(int calls)                                                                                                            \
-    {                                                                                                                                            \
-        for (int i = 0; i < calls; i++)                                                                                                          \
-            sum += lambukir_##call;                                                                                                              \
-    }                                                                                                                                            \
-    static void their_##name(int calls)                                                                                                          \
-    {                                                                                                                                            \
-        for (int i = 0; i < calls; i++)                                                                                                          \
-            sum += model_##call;                                                                                                                 \
-    }
-
 #define NTH (i % SAMPLES)
-BOTH(make, make_user_permit(reg, reg_length, hw_id, m_id_at(reg, NTH), written, sizeof written))
-BOTH(read, read_user_permit(reg, reg_length, permits[NTH], 28).hw_id)
-BOTH(line, read_line(hw_id, 20240131, 30, lines[NTH], line_lengths[NTH]).key_one)
-BOTH(write, write_line(hw_id, records[NTH].name, records[NTH].expiry, records[NTH].key_one, records[NTH].key_two, records[NTH].level,
+BOTH(model, make, make_user_permit(reg, reg_length, hw_id, m_id_at(reg, NTH), written, sizeof written))
+BOTH(model, read, read_user_permit(reg, reg_length, permits[NTH], 28).hw_id)
+BOTH(model, line, read_line(hw_id, 20240131, 30, lines[NTH], line_lengths[NTH]).key_one)
+BOTH(model, write, write_line(hw_id, records[NTH].name, records[NTH].expiry, records[NTH].key_one, records[NTH].key_two, records[NTH].level,
                        records[NTH].edition, records[NTH].server, written, sizeof written).length)
-BOTH(file_line, read_file_line(hw_id, 20240131, 30, file.bytes, file.length, places[NTH]).next)
+BOTH(model, file_line, read_file_line(hw_id, 20240131, 30, file.bytes, file.length, places[NTH]).next)
 
 /* An input of about so many bytes: the first line, a header and good lines. */
 static void put_look_through(size_t size)

@@ -1,0 +1,63 @@
+/* The calls on a book, ours and by hand: a full book for those that read, and one with room for one record for entering and withdrawing. */
+#ifndef DESK_H
+#define DESK_H
+
+#include "book.h"
+#include "permits.h"
+
+#define QUOTA (MOST_RECORDS / TENANTS)
+#define ROOMY 7 /* the tenant with room for one cell */
+
+static uint8_t full_book[LAMBUKIR_BOOK_SIZE], our_book[LAMBUKIR_BOOK_SIZE], their_book[LAMBUKIR_BOOK_SIZE];
+static uint64_t held[TENANTS][QUOTA], absent[SAMPLES];
+
+/* Books, the cells that are in them, and cells that are not. False where both sides do not fill a book alike, to its last record. */
+static bool make_books(void)
+{
+    static const uint8_t servers[] = "NODEA2A3A4A5A6A7A8A9B0B1B2B3B4B5";
+    uint16_t quotas[TENANTS];
+    for (size_t t = 0; t < TENANTS; t++)
+        quotas[t] = QUOTA;
+    sum += lambukir_open_book(full_book, sizeof full_book, quotas, TENANTS, servers, 32);
+    sum += plain_open_book(their_book, sizeof their_book, quotas, TENANTS, servers, 32);
+    for (uint32_t i = 0; i < MOST_RECORDS; i++) {
+        uint64_t name = held[i % TENANTS][i / TENANTS] = some_name(), one = some_key(), two = some_key();
+        uint32_t edition = 1 + (uint32_t)random_below(999);
+        sum += lambukir_enter(full_book, sizeof full_book, i % TENANTS, name, edition, one, two);
+        sum += plain_enter(their_book, sizeof their_book, i % TENANTS, name, edition, one, two);
+    }
+    for (size_t i = 0; i < SAMPLES; i++)
+        absent[i] = some_name();
+    memcpy(our_book, full_book, sizeof our_book);
+    sum += lambukir_withdraw(our_book, sizeof our_book, ROOMY, held[ROOMY][0]);
+    if (memcmp(full_book, their_book, sizeof full_book) != 0 || full_book[LAMBUKIR_BOOK_SIZE - 24] != TENANTS - 1)
+        return false;
+    memcpy(their_book, our_book, sizeof their_book);
+    return true;
+}
+
+#define FULL full_book, sizeof full_book
+#define NTH_TENANT ((uint32_t)i % TENANTS)
+#define NTH_CELL held[NTH_TENANT][i / TENANTS % QUOTA]
+BOTH(plain, edition, ask_edition(FULL, NTH_TENANT, NTH_CELL).edition)
+BOTH(plain, judged, ask_edition(FULL, NTH_TENANT, absent[NTH]).number)
+BOTH(plain, issue, issue(FULL, reg, reg_length, NTH_TENANT, NTH_CELL, 20240301, 0, permits[NTH], 28, written, sizeof written).length)
+BOTH(plain, check, check(FULL, NTH_TENANT, hw_id, 20240131, lines[NTH], line_lengths[NTH]).key_one)
+
+static void our_enter(int calls)
+{
+    for (int i = 0; i < calls; i++) {
+        sum += lambukir_enter(our_book, sizeof our_book, ROOMY, absent[NTH], 1, 2, 3);
+        sum += lambukir_withdraw(our_book, sizeof our_book, ROOMY, absent[NTH]);
+    }
+}
+
+static void their_enter(int calls)
+{
+    for (int i = 0; i < calls; i++) {
+        sum += plain_enter(their_book, sizeof their_book, ROOMY, absent[NTH], 1, 2, 3);
+        sum += plain_withdraw(their_book, sizeof their_book, ROOMY, absent[NTH]);
+    }
+}
+
+#endif
