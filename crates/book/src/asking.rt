@@ -48,8 +48,8 @@ pub fn ask_edition(book: &[u8], tenant: u32, name: u64) -> Asked
     edition_in(book, tenant, name)
 }
 
-// Whether a cell name, an expiry and a service level can be asked for.
-fn is_asked(name: u64, expiry: u32, level: u32) -> bool
+// Whether cell name, expiry and service level are in their ranges and alphabets.
+fn are_given(name: u64, expiry: u32, level: u32) -> bool
     ensures { λ r. ⌜ r ≡ (isCellName name && isDate expiry && leb level 1) ⌝ }
 {
     if !is_cell_name(name) {
@@ -123,7 +123,7 @@ fn issue_from(
     if out.len() < 76 {
         return Written::Refused(108);
     }
-    if !is_asked(name, expiry, level) {
+    if !are_given(name, expiry, level) {
         return Written::Refused(103);
     }
     let ship = permit::user_permit::read_user_permit(register, permit);

@@ -33,15 +33,15 @@ returns-3 c =
     refused _ 108 _
     (issuing-short _ _ _ _ _ _ _ _ (registered (c .before .before)) (tenant-is _ (c .before .if2 .left)) (lt-leb 76 _ (c .if3 .taken)))
 
-is-asked-requires : tie.Need-is-asked-requires
-is-asked-requires c κs = search needs
+are-given-requires : tie.Need-are-given-requires
+are-given-requires c κs = search needs
 
 returns-4 : tie.Need-returns-4
 returns-4 c =
     let long = c .before .before in
     refused _ 103 _
     (issuing-unfit _ _ _ _ _ _ _ _ (registered (long .before .before)) (tenant-is _ (long .before .if2 .left)) (le-leb 76 _ (long .if3 .left))
-    (sym (c .before .is-asked .ensures) ∙ not-true _ (c .if4 .taken)))
+    (sym (c .before .are-given .ensures) ∙ not-true _ (c .if4 .taken)))
 
 read-user-permit-requires : tie.Need-read-user-permit-requires
 read-user-permit-requires c κs = search needs
@@ -62,7 +62,7 @@ returns-5 c =
     answered-same _ _ _ _ _
     (issuing-line (args .tenant) (args .register .now) (args .name) (args .expiry) (args .level) (args .permit .now) (length (args .out .now)) own
     (registered (long .before .before)) (tenant-is _ (long .before .if2 .left)) (le-leb 76 _ (long .if3 .left))
-    (sym (read .before .before .is-asked .ensures) ∙ not-false _ (read .before .if4 .left))
+    (sym (read .before .before .are-given .ensures) ∙ not-false _ (read .before .if4 .left))
     ∙ ap
     (λ (ship : UserPermit). lineFor ship (cellOf (args .name) (own .cells)) (own .setting) (args .expiry) (args .level) (length (args .out .now)))
     (sym (read .read-user-permit .ensures)))
@@ -76,7 +76,7 @@ issue-from-spec =
     returns
     returns-2
     returns-3
-    is-asked-requires
+    are-given-requires
     returns-4
     read-user-permit-requires
     issue-for-requires

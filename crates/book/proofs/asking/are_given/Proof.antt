@@ -1,10 +1,10 @@
--- `book::asking::is_asked` meets its contract.
+-- `book::asking::are_given` meets its contract.
 -- Assumes nothing.
 use mathlib.Core.Path.{sym, _∙_}
 use borrow.Author.Needs.{needs}
 use borrow.Author.Tests.{not-true, not-false}
-use Rattle.book.proofs.asking.is_asked.Statement.{statement}
-use Rattle.book.proofs.asking.is_asked.Tie as tie
+use Rattle.book.proofs.asking.are_given.Statement.{statement}
+use Rattle.book.proofs.asking.are_given.Tie as tie
 
 is-cell-name-requires : tie.Need-is-cell-name-requires
 is-cell-name-requires c κs = search needs
@@ -25,5 +25,5 @@ returns-3 c =
     let named = c .before .before in
     rw (sym (named .before .is-cell-name .ensures) ∙ not-false _ (named .if1 .left), sym (c .before .is-date .ensures) ∙ not-false _ (c .if2 .left))
 
-pub is-asked-spec : {M : Type 1} → statement M
-is-asked-spec = tie.close (tie.spec is-cell-name-requires returns is-date-requires returns-2 returns-3)
+pub are-given-spec : {M : Type 1} → statement M
+are-given-spec = tie.close (tie.spec is-cell-name-requires returns is-date-requires returns-2 returns-3)
