@@ -6,7 +6,7 @@ use native.Mathlib.Numerals.{add-one}
 use native.Mathlib.Omega.{arith}
 use lib.Bits.{bitXor}
 use Rattle.text.proofs.Xor.{xor-swap}
-use Rattle.blowfish.specs.Cipher.{Block, block, round, rounds, cipher, numberOf}
+use Rattle.blowfish.specs.Cipher.{Block, block, round, rounds, cipher, blockNumber}
 
 -- the words n and n + 1 are combined already
 abbrev pub ahead : (ℕ → ℕ) → ℕ → Block → Block
@@ -32,7 +32,7 @@ module _ (f p : ℕ → ℕ) (b : Block) where
       ∙ one i (rounds f p i b)
       ∙ ap (λ (n : ℕ). ahead p (i + 1) (rounds f p n b)) (sym (add-one i))
 
-  pub finish : (i l r : ℕ) → i ≡ 16 → block l r ≡ ahead p i (rounds f p i b) → r * 2 ^ 32 + l ≡ numberOf (cipher f p b)
+  pub finish : (i l r : ℕ) → i ≡ 16 → block l r ≡ ahead p i (rounds f p i b) → r * 2 ^ 32 + l ≡ blockNumber (cipher f p b)
   unfolding cipher
   finish i l r end e =
       ap (λ (x : Block). x .right * 2 ^ 32 + x .left) (e ∙ ap (λ (n : ℕ). ahead p n (rounds f p n b)) end)

@@ -12,7 +12,7 @@ use lib.ListN.{length, set}
 use Rattle.text.specs.Numbers.{Below}
 use Rattle.text.proofs.Digits.{digits-below, set-below}
 use Rattle.blowfish.specs.Pi.{piFraction, startWords}
-use Rattle.blowfish.specs.Cipher.{F, P, farEnd, Block, block, rounds, cipher, blockOf, numberOf, encipherOf, decipherOf}
+use Rattle.blowfish.specs.Cipher.{F, P, farEnd, Block, block, rounds, cipher, blockOf, blockNumber, encipherOf, decipherOf}
 use Rattle.blowfish.specs.Schedule.{keyWord, keyed, Filling, filled, schedule}
 use Rattle.blowfish.specs.BackAgain.{NumberBack, NumberForth, BlocksStayBlocks, KeysHaveWords}
 use Rattle.blowfish.proofs.BackAgain.{decipher-after-encipher, encipher-after-decipher}
@@ -39,16 +39,16 @@ module _ (f p : ℕ → ℕ) (words-f : (x : ℕ) → Word (f x)) (words-p : (i 
       (xor-lt 32 _ _ (rounded .1) (words-p 17), xor-lt 32 _ _ (rounded .0) (words-p 16))
 
 -- a block's number is taken apart again
-parts : (b : Block) → Word (b .right) → blockOf (numberOf b) ≡ b
+parts : (b : Block) → Word (b .right) → blockOf (blockNumber b) ≡ b
 parts b r = ap₂ block (digits-div (b .left) r) (digits-mod (b .left) r)
 
-whole : (x : ℕ) → numberOf (blockOf x) ≡ x
+whole : (x : ℕ) → blockNumber (blockOf x) ≡ x
 whole x = div-add-mod' x (2 ^ 32)
 
 left-word : (x : ℕ) → x < 2 ^ 64 → Word (x / 2 ^ 32)
 left-word x h = omega arith
 
-number-lt : (b : Block) → Word (b .left) → Word (b .right) → numberOf b < 2 ^ 64
+number-lt : (b : Block) → Word (b .left) → Word (b .right) → blockNumber b < 2 ^ 64
 number-lt b l r = omega arith
 
 module _ (w : List ℕ) (words : Below (2 ^ 32) w) (x : ℕ) (fits : x < 2 ^ 64) where
@@ -61,15 +61,15 @@ module _ (w : List ℕ) (words : Below (2 ^ 32) w) (x : ℕ) (fits : x < 2 ^ 64)
 pub number-back : NumberBack
 unfolding encipherOf decipherOf
 number-back w words x fits =
-    ap (λ (b : Block). numberOf (cipher (F w) (farEnd w) b)) (parts (cipher (F w) (P w) (blockOf x)) (enciphered w words x fits .1))
-    ∙ ap numberOf (decipher-after-encipher w (blockOf x))
+    ap (λ (b : Block). blockNumber (cipher (F w) (farEnd w) b)) (parts (cipher (F w) (P w) (blockOf x)) (enciphered w words x fits .1))
+    ∙ ap blockNumber (decipher-after-encipher w (blockOf x))
     ∙ whole x
 
 pub number-forth : NumberForth
 unfolding encipherOf decipherOf
 number-forth w words x fits =
-    ap (λ (b : Block). numberOf (cipher (F w) (P w) b)) (parts (cipher (F w) (farEnd w) (blockOf x)) (deciphered w words x fits .1))
-    ∙ ap numberOf (encipher-after-decipher w (blockOf x))
+    ap (λ (b : Block). blockNumber (cipher (F w) (P w) b)) (parts (cipher (F w) (farEnd w) (blockOf x)) (deciphered w words x fits .1))
+    ∙ ap blockNumber (encipher-after-decipher w (blockOf x))
     ∙ whole x
 
 pub blocks-stay-blocks : BlocksStayBlocks

@@ -68,13 +68,13 @@ abbrev pub blockOf : ℕ → Block
 blockOf x = block (x / 2 ^ 32) (x % 2 ^ 32)
 
 -- its eight bytes as a number again
-abbrev pub numberOf : Block → ℕ
-numberOf b = b .left * 2 ^ 32 + b .right
+abbrev pub blockNumber : Block → ℕ
+blockNumber b = b .left * 2 ^ 32 + b .right
 
 -- a block enciphered
 unfoldable pub encipherOf : List ℕ → ℕ → ℕ
-encipherOf w x = numberOf (cipher (F w) (P w) (blockOf x))
+encipherOf w x = blockNumber (cipher (F w) (P w) (blockOf x))
 
 -- and deciphered
 unfoldable pub decipherOf : List ℕ → ℕ → ℕ
-decipherOf w x = numberOf (cipher (F w) (farEnd w) (blockOf x))
+decipherOf w x = blockNumber (cipher (F w) (farEnd w) (blockOf x))

@@ -16,7 +16,7 @@ use Rattle.tenants.specs.Rules.{
   withdraws,
   sets,
   refuses,
-  numberOf,
+  changeNumber,
   isTenant,
   isDays,
   isHeld,
@@ -30,11 +30,11 @@ use Rattle.book.specs.OnBook.{ownIn, entry, withdrawal, newDays, bytesAf
 
 -- a call that does a change, and answers its number
 abbrev pub Does : ℕ → List ℕ → Change → ℕ → List ℕ → Type 0
-Does t s change r after = (r ≡ numberOf change) × (after ≡ bytesAfter t change s)
+Does t s change r after = (r ≡ changeNumber change) × (after ≡ bytesAfter t change s)
 
 -- a refusal answers its number and leaves the bytes
 pub refused : (t : ℕ) (s : List ℕ) (change : Change) (n : ℕ) → change ≡ refuses n → Does t s change n s
-refused t s change n e = (sym (ap numberOf e), sym (ap (λ (c : Change). bytesAfter t c s) e))
+refused t s change n e = (sym (ap changeNumber e), sym (ap (λ (c : Change). bytesAfter t c s) e))
 
 -- what does one change does an equal one
 pub does-same : (t : ℕ) (s after : List ℕ) (change same : Change) (r : ℕ) → change ≡ same → Does t s same r after → Does t s change r after

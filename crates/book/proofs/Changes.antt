@@ -17,7 +17,7 @@ use Rattle.tenants.specs.Rules.{enters, withdraws, sets}
 use Rattle.tenants.specs.Together.{fullName, named, noSetting, changed}
 use Rattle.tenants.proofs.Ordered.{entered-first, entered-same, entered-behind, withdrawn-same, withdrawn-other}
 use Rattle.tenants.proofs.Goodness.{Good}
-use Rattle.layout.specs.Layout.{recordBytes, bookBytes, settingPlace, recordPlace, countOf, bookOf, isBook}
+use Rattle.layout.specs.Layout.{recordBytes, bookBytes, settingPlace, recordPlace, recordCount, bookOf, isBook}
 use Rattle.layout.proofs.Indexed.{book-count}
 use Rattle.book.specs.Moves.{recordInserted, recordRemoved}
 use Rattle.book.proofs.Undamaged.{good as good-book, written-so}
@@ -61,11 +61,11 @@ module _ (s : List ℕ) (undamaged : isBook s ≡ true) where
         (entered-past new (h .front) (h .it ∷ h .back) (h .below)
         ∙ ap (λ (l : List Held). h .front ++ l) (entered-same new (h .it) (h .back) (sym (h .name)))))
 
-    pub inserts : Gone (fullName t (cell .name)) (bookOf s .records) i → countOf s < 512
-        → recordInserted (countOf s) i new s ≡ bookBytes (changed t (enters cell) (bookOf s))
+    pub inserts : Gone (fullName t (cell .name)) (bookOf s .records) i → recordCount s < 512
+        → recordInserted (recordCount s) i new s ≡ bookBytes (changed t (enters cell) (bookOf s))
     inserts h room =
-        ap₂ (λ (n : ℕ) (l : List ℕ). recordInserted (countOf s) n new l) (sym (h .place)) (says ∙ ap with (h .whole))
-        ∙ record-inserted (bookOf s .settings) (good .sixteen) (h .front) new (h .back) (countOf s)
+        ap₂ (λ (n : ℕ) (l : List ℕ). recordInserted (recordCount s) n new l) (sym (h .place)) (says ∙ ap with (h .whole))
+        ∙ record-inserted (bookOf s .settings) (good .sixteen) (h .front) new (h .back) (recordCount s)
         (ap length (sym (h .whole)) ∙ book-count s) room
         ∙ sym
         (ap (λ (l : List Held). with (entered new l)) (h .whole)
@@ -73,10 +73,10 @@ module _ (s : List ℕ) (undamaged : isBook s ≡ true) where
         (entered-past new (h .front) (h .back) (h .below) ∙ ap (λ (l : List Held). h .front ++ l) (entered-first new (h .back) (h .above))))
 
   pub removes : (t name i : ℕ) → Here (fullName t name) (bookOf s .records) i
-      → recordRemoved (countOf s) i s ≡ bookBytes (changed t (withdraws name) (bookOf s))
+      → recordRemoved (recordCount s) i s ≡ bookBytes (changed t (withdraws name) (bookOf s))
   removes t name i h =
       let n : ℕ = length (h .front ++ h .back) in
-      let one-more : countOf s ≡ suc n = sym (book-count s) ∙ ap length (h .whole) ∙ simp length-append (omega arith) in
+      let one-more : recordCount s ≡ suc n = sym (book-count s) ∙ ap length (h .whole) ∙ simp length-append (omega arith) in
       ap (λ (m : ℕ). recordRemoved m i s) one-more
       ∙ ap₂ (recordRemoved (suc n)) (sym (h .place)) (says ∙ ap with (h .whole))
       ∙ record-removed (bookOf s .settings) (good .sixteen) (h .front) (h .it) (h .back) n refl (omega (arith, good .count, book-count s))

@@ -15,7 +15,7 @@ use Rattle.tenants.specs.Together.{fullName, ownOf}
 use Rattle.tenants.proofs.OwnCells.{inBook}
 use Rattle.tenants.proofs.Ranges.{tenant-is, days-below, name-below, held-below}
 use Rattle.tenants.proofs.Room.{has-place}
-use Rattle.layout.specs.Layout.{recordBytes, settingAt, settingPlace, recordPlace, countOf, bookOf, isBook}
+use Rattle.layout.specs.Layout.{recordBytes, settingAt, settingPlace, recordPlace, recordCount, bookOf, isBook}
 use Rattle.layout.proofs.Indexed.{book-count}
 use Rattle.layout.proofs.Frame.{book-frame}
 use Rattle.book.specs.declared.finding.Found.the-variants.{At, Absent}
@@ -40,7 +40,7 @@ use Rattle.book.proofs.ChangeRules.{
 
 module _ (s : List ℕ) (undamaged : isBook s ≡ true) (t : ℕ) (tenant : t ≤ 15) where
   -- the tenant's own quota has room, so the book has
-  pub room-for : length (ownIn s t .cells) < settingAt s t .quota → countOf s < 512
+  pub room-for : length (ownIn s t .cells) < settingAt s t .quota → recordCount s < 512
   unfolding ownOf
   room-for room =
       let within = ap (λ (x : Setting). x .quota) (own-setting s t tenant) in
@@ -56,7 +56,7 @@ module _ (s : List ℕ) (undamaged : isBook s ≡ true) (t : ℕ) (tenant : t �
 
     module _ (found : foundIn (fullName t (cell .name)) (bookOf s .records) ≡ Absent i) where
       pub entered-new : length (ownIn s t .cells) < settingAt s t .quota
-          → Does t s (entry s t cell) 0 (recordInserted (countOf s) i (inBook t cell) s)
+          → Does t s (entry s t cell) 0 (recordInserted (recordCount s) i (inBook t cell) s)
       entered-new room =
           does-same t s _ (entry s t cell) (enters cell) 0
           (entry-roomy s t cell undamaged (tenant-is t tenant) fit (rw (own-setting s t tenant) room))
@@ -75,7 +75,7 @@ module _ (s : List ℕ) (undamaged : isBook s ≡ true) (t : ℕ) (tenant : t �
         (withdrawal-absent s t name undamaged (tenant-is t tenant) fit (absent-cell s undamaged t name i found (name-below name fit)))
 
     pub withdrawn-held : foundIn (fullName t name) (bookOf s .records) ≡ At i
-        → Does t s (withdrawal s t name) 0 (recordRemoved (countOf s) i s)
+        → Does t s (withdrawal s t name) 0 (recordRemoved (recordCount s) i s)
     withdrawn-held found =
         does-same t s _ (withdrawal s t name) (withdraws name) 0
         (withdrawal-held s t name undamaged (tenant-is t tenant) fit _ (found-cell s undamaged t name i found (name-below name fit)))

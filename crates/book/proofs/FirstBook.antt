@@ -12,7 +12,7 @@ use lib.Seq.{take-all, take-suc-set, drop-at}
 use Rattle.text.specs.Numbers.{digits}
 use Rattle.text.specs.Texts.{placed}
 use Rattle.text.proofs.PlacedTexts.{length-placed, placed-none, placed-start, placed-next}
-use Rattle.permit.specs.Output.{numberOf, answerOf, lentAfter}
+use Rattle.permit.specs.Output.{writtenNumber, writtenOf, lentAfter}
 use Rattle.tenants.specs.declared.Setting.{Setting}
 use Rattle.layout.specs.Layout.{bookSize, settingPlace, zeros, settingBytes, allBytes, bookBytes, eachFrom}
 use Rattle.layout.proofs.Each.{each-count}
@@ -145,7 +145,7 @@ module _ (quotas ids : List ℕ) where
 
   -- the answer and the book afterwards
   abbrev pub Opened : List ℕ → ℕ → List ℕ → Type 0
-  Opened s n after = (n ≡ numberOf (answerOf (opened quotas ids s))) × (after ≡ lentAfter (opened quotas ids s) s)
+  Opened s n after = (n ≡ writtenNumber (writtenOf (opened quotas ids s))) × (after ≡ lentAfter (opened quotas ids s) s)
 
   pub wrong-length : (s : List ℕ) → (length s ≡ bookSize → ⊥) → Opened s 101 s
   unfolding opened

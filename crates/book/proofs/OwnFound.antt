@@ -12,7 +12,7 @@ use Rattle.tenants.specs.declared.Held.{Held}
 use Rattle.tenants.specs.Cells.{cellOf}
 use Rattle.tenants.specs.Together.{names, fullName, nameOf, named, noSetting, ownOf}
 use Rattle.tenants.proofs.OwnCells.{own, cell-found, cell-absent}
-use Rattle.layout.specs.Layout.{settingAt, recordAt, countOf, bookOf, isBook}
+use Rattle.layout.specs.Layout.{settingAt, recordAt, recordCount, bookOf, isBook}
 use Rattle.layout.proofs.Frame.{book-frame}
 use Rattle.layout.proofs.Indexed.{book-count, book-record, book-setting}
 use Rattle.book.specs.declared.finding.Found.the-variants.{At, Absent}
@@ -31,7 +31,7 @@ module _ (s : List ℕ) (undamaged : isBook s ≡ true) (t name i : ℕ) where
     here = found-at (fullName t name) (bookOf s .records) i (good s undamaged .sorted) found
 
     -- the place lies among the records
-    pub found-within : i < countOf s
+    pub found-within : i < recordCount s
     found-within = omega (arith, here .place, book-count s, simp length-append at (ap length (here .whole)))
 
     pub found-few : i < 512
@@ -56,7 +56,7 @@ module _ (s : List ℕ) (undamaged : isBook s ≡ true) (t name i : ℕ) where
     gone = found-absent (fullName t name) (bookOf s .records) i (good s undamaged .sorted) found
 
     -- the place lies among the records or after the last
-    pub absent-within : i ≤ countOf s
+    pub absent-within : i ≤ recordCount s
     absent-within = omega (arith, gone .place, book-count s, simp length-append at (ap length (gone .whole)))
 
     pub absent-cell : name < names → cellOf name (ownIn s t .cells) ≡ none

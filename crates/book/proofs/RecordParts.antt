@@ -9,7 +9,7 @@ use borrow.Author.Tests.{ltb-true, ltb-false, leb-true, leb-false, eqb-true, eqb
 use lib.Dec.{ltb, eqb, leb}
 use lib.ListN.{length, getD, take, drop}
 use lib.Seq.{take-take}
-use Rattle.text.specs.Numbers.{Below, numberOf}
+use Rattle.text.specs.Numbers.{Below, bytesNumber}
 use Rattle.text.specs.Places.{numberAt}
 use Rattle.text.proofs.Every.{either}
 use Rattle.text.proofs.Places.{number-within, number-beyond, part-length, number-one, number-join, number-at-below}
@@ -46,7 +46,7 @@ module _ (t n u m : ℕ) (small : n < names) (small′ : m < names) where
 pub number-of-part : (n size : ℕ) (s : List ℕ) (at : ℕ) → n ≤ size → at + size ≤ length s → numberAt n (take size (drop at s)) 0 ≡ numberAt n s at
 number-of-part n size s at few within =
     number-within n (take size (drop at s)) 0 (rw (part-length size s at within) (omega arith))
-    ∙ ap numberOf (take-take n size (drop at s) few)
+    ∙ ap bytesNumber (take-take n size (drop at s) few)
     ∙ sym (number-within n s at (omega arith))
 
 -- the name of a record is the eight bytes after the tenant's

@@ -11,7 +11,7 @@ use lib.ListN.{length, getD, take, drop}
 use Rattle.text.specs.Places.{numberAt}
 use Rattle.tenants.specs.declared.Held.{Held}
 use Rattle.tenants.specs.Together.{fullName, ownOf}
-use Rattle.layout.specs.Layout.{recordSize, recordPlace, recordAt, countOf, bookOf, isBook}
+use Rattle.layout.specs.Layout.{recordSize, recordPlace, recordAt, recordCount, bookOf, isBook}
 use Rattle.layout.proofs.Frame.{book-frame}
 use Rattle.layout.proofs.Indexed.{book-count, book-record}
 use Rattle.book.specs.declared.finding.Found.the-variants.{At, Absent}
@@ -26,10 +26,10 @@ module _ (s : List ℕ) (full : ℕ) (undamaged : isBook s ≡ true) where
   abbrev place : ℕ
   place = placeOf full (bookOf s .records)
 
-  pub place-most : place ≤ countOf s
+  pub place-most : place ≤ recordCount s
   place-most = omega (arith, place-within full (bookOf s .records), book-count s)
 
-  module _ (i : ℕ) (inside : i < countOf s) where
+  module _ (i : ℕ) (inside : i < recordCount s) where
     -- the bytes of record i, as a part from one place to another
     abbrev bytes : List ℕ
     bytes = take (recordPlace i + recordSize - recordPlace i) (drop (recordPlace i) s)
@@ -63,7 +63,7 @@ module _ (s : List ℕ) (full : ℕ) (undamaged : isBook s ≡ true) where
         ∙ sym (answer-other full (bookOf s .records) (recordAt s i) (good s undamaged .sorted)
         (rw (sym here) (λ e. eqb-false (numberAt 9 bytes 0) full other (name-is ∙ e))))
 
-  pub search-end : (i : ℕ) → countOf s ≤ i → i ≡ place → Absent i ≡ foundIn full (bookOf s .records)
+  pub search-end : (i : ℕ) → recordCount s ≤ i → i ≡ place → Absent i ≡ foundIn full (bookOf s .records)
   search-end i end here =
       ap Absent here ∙ sym (answer-end full (bookOf s .records) (recordAt s i) (good s undamaged .sorted) (omega (arith, book-count s)))
 

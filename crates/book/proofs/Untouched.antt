@@ -3,7 +3,7 @@
 use mathlib.Core.Path.{_≡_, refl, ap, _∙_}
 use mathlib.Core.List.{List}
 use Prim.Native.Nat.{ℕ}
-use Rattle.tenants.specs.Rules.{Change, enters, withdraws, sets, nothing, refuses, numberOf}
+use Rattle.tenants.specs.Rules.{Change, enters, withdraws, sets, nothing, refuses, changeNumber}
 use Rattle.tenants.specs.Calls.{enter, withdraw, setDays, askEdition, issue, check}
 use Rattle.tenants.specs.Together.{ownOf}
 use Rattle.tenants.proofs.Apart.{other-after}
@@ -15,7 +15,7 @@ use Rattle.book.proofs.Undamaged.{book-after}
 pub others-untouched : OthersUntouched
 others-untouched s t u call undamaged apart = ap (ownOf u) (book-after s t call undamaged) ∙ other-after t u call (bookOf s) apart
 
-refused-leaves : (t : ℕ) (change : Change) (s : List ℕ) → (numberOf change ≡ 0 → ⊥) → bytesAfter t change s ≡ s
+refused-leaves : (t : ℕ) (change : Change) (s : List ℕ) → (changeNumber change ≡ 0 → ⊥) → bytesAfter t change s ≡ s
 refused-leaves t (enters cell) s refused = absurd (refused refl)
 refused-leaves t (withdraws name) s refused = absurd (refused refl)
 refused-leaves t (sets days) s refused = absurd (refused refl)

@@ -16,7 +16,7 @@ use Rattle.tenants.specs.Rules.{
   sets,
   nothing,
   refuses,
-  numberOf,
+  changeNumber,
   entering,
   withdrawing,
   settingDays,
@@ -67,9 +67,9 @@ checkedBy s t hw today line = demand (isBook s) (of-line.Refused 101) (checking 
 
 -- what a call answers, as the contract of its function says
 abbrev pub answerIn : ℕ → Call → List ℕ → Answer
-answerIn t (enter cell) s = number (numberOf (entry s t cell))
-answerIn t (withdraw name) s = number (numberOf (withdrawal s t name))
-answerIn t (setDays days) s = number (numberOf (newDays s t days))
+answerIn t (enter cell) s = number (changeNumber (entry s t cell))
+answerIn t (withdraw name) s = number (changeNumber (withdrawal s t name))
+answerIn t (setDays days) s = number (changeNumber (newDays s t days))
 answerIn t (askEdition name) s = edition (editionIn s t name)
 answerIn t (issue register name expiry level permit room) s = written (issuedFrom s register t name expiry level permit room)
 answerIn t (check hw today line) s = read (checkedBy s t hw today line)

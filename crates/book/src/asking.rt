@@ -6,7 +6,7 @@ ghost use lib.Dec.{leb};
 ghost use lib.ListN.{length};
 ghost use Rattle.dates.specs.Calendar.{isDate};
 ghost use Rattle.permit.specs.Identifiers.{isCellName};
-ghost use Rattle.permit.specs.Output.{answerOf, lentAfter};
+ghost use Rattle.permit.specs.Output.{writtenOf, lentAfter};
 ghost use Rattle.tenants.specs.Cells.{cellOf};
 ghost use Rattle.tenants.specs.Rules.{lineFor, asking, issuing, checking};
 ghost use Rattle.layout.specs.Layout.{isBook};
@@ -72,7 +72,7 @@ fn issue_for(
     out: &mut [u8],
 ) -> Written
     requires { ⌜ (isBook (now book) ≡ true) × (tenant ≤ 15) ⌝ }
-    ensures { λ r. ⌜ (r ≡ answerOf (lineFor ship (cellOf name (ownIn (now (book .entry)) tenant .cells))
+    ensures { λ r. ⌜ (r ≡ writtenOf (lineFor ship (cellOf name (ownIn (now (book .entry)) tenant .cells))
         (ownIn (now (book .entry)) tenant .setting) expiry level (length (now (out .entry)))))
         × (now (out .exit) ≡ lentAfter (lineFor ship (cellOf name (ownIn (now (book .entry)) tenant .cells))
         (ownIn (now (book .entry)) tenant .setting) expiry level (length (now (out .entry)))) (now (out .entry))) ⌝ }
@@ -109,7 +109,7 @@ fn issue_from(
     out: &mut [u8],
 ) -> Written
     requires { ⌜ isBook (now book) ≡ true ⌝ }
-    ensures { λ r. ⌜ (r ≡ answerOf (issuing tenant (now (register .entry)) name expiry level
+    ensures { λ r. ⌜ (r ≡ writtenOf (issuing tenant (now (register .entry)) name expiry level
         (now (permit .entry)) (length (now (out .entry))) (ownIn (now (book .entry)) tenant)))
         × (now (out .exit) ≡ lentAfter (issuing tenant (now (register .entry)) name expiry level
         (now (permit .entry)) (length (now (out .entry))) (ownIn (now (book .entry)) tenant)) (now (out .entry))) ⌝ }
@@ -141,7 +141,7 @@ pub fn issue(
     permit: &[u8],
     out: &mut [u8],
 ) -> Written
-    ensures { λ r. ⌜ (r ≡ answerOf (issuedFrom (now (book .entry)) (now (register .entry)) tenant name expiry level
+    ensures { λ r. ⌜ (r ≡ writtenOf (issuedFrom (now (book .entry)) (now (register .entry)) tenant name expiry level
         (now (permit .entry)) (length (now (out .entry)))))
         × (now (out .exit) ≡ lentAfter (issuedFrom (now (book .entry)) (now (register .entry)) tenant name expiry level
         (now (permit .entry)) (length (now (out .entry)))) (now (out .entry))) ⌝ }

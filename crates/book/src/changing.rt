@@ -2,7 +2,7 @@
 ghost use mathlib.Core.Path.{_≡_};
 ghost use mathlib.Core.Bool.{true};
 ghost use Prim.Native.Nat.{_≤_};
-ghost use Rattle.tenants.specs.Rules.{isDays, isHeld, numberOf};
+ghost use Rattle.tenants.specs.Rules.{isDays, isHeld, changeNumber};
 ghost use Rattle.tenants.specs.Together.{fullName};
 ghost use Rattle.layout.specs.Layout.{bookOf, isBook};
 ghost use Rattle.book.specs.declared.finding.Found.the-variants.{Absent};
@@ -46,7 +46,7 @@ fn enter_new(book: &mut [u8], i: usize, tenant: u32, cell: Held) -> u32
     requires { ⌜ isBook (now book) ≡ true ⌝ }
     requires { ⌜ (tenant ≤ 15) × (isHeld cell ≡ true) ⌝ }
     requires { ⌜ foundIn (fullName tenant (cell .name)) (bookOf (now book) .records) ≡ Absent i ⌝ }
-    ensures { λ r. ⌜ (r ≡ numberOf (entry (now (book .entry)) tenant cell))
+    ensures { λ r. ⌜ (r ≡ changeNumber (entry (now (book .entry)) tenant cell))
         × (now (book .exit) ≡ bytesAfter tenant (entry (now (book .entry)) tenant cell) (now (book .entry))) ⌝ }
 {
     let n = layout::count(book);
@@ -61,7 +61,7 @@ fn enter_new(book: &mut [u8], i: usize, tenant: u32, cell: Held) -> u32
 
 // Enters a cell: a held name is replaced.
 pub fn enter(book: &mut [u8], tenant: u32, cell: Held) -> u32
-    ensures { λ r. ⌜ (r ≡ numberOf (entry (now (book .entry)) tenant cell))
+    ensures { λ r. ⌜ (r ≡ changeNumber (entry (now (book .entry)) tenant cell))
         × (now (book .exit) ≡ bytesAfter tenant (entry (now (book .entry)) tenant cell) (now (book .entry))) ⌝ }
 {
     if !layout::is_book(book) {
@@ -84,7 +84,7 @@ pub fn enter(book: &mut [u8], tenant: u32, cell: Held) -> u32
 
 // Withdraws a cell.
 pub fn withdraw(book: &mut [u8], tenant: u32, name: u64) -> u32
-    ensures { λ r. ⌜ (r ≡ numberOf (withdrawal (now (book .entry)) tenant name))
+    ensures { λ r. ⌜ (r ≡ changeNumber (withdrawal (now (book .entry)) tenant name))
         × (now (book .exit) ≡ bytesAfter tenant (withdrawal (now (book .entry)) tenant name) (now (book .entry))) ⌝ }
 {
     if !layout::is_book(book) {
@@ -106,7 +106,7 @@ pub fn withdraw(book: &mut [u8], tenant: u32, name: u64) -> u32
 
 // Sets a tenant's warning days.
 pub fn set_days(book: &mut [u8], tenant: u32, days: u32) -> u32
-    ensures { λ r. ⌜ (r ≡ numberOf (newDays (now (book .entry)) tenant days))
+    ensures { λ r. ⌜ (r ≡ changeNumber (newDays (now (book .entry)) tenant days))
         × (now (book .exit) ≡ bytesAfter tenant (newDays (now (book .entry)) tenant days) (now (book .entry))) ⌝ }
 {
     if !layout::is_book(book) {

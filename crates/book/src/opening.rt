@@ -4,7 +4,7 @@ ghost use mathlib.Core.List.{[]};
 ghost use Prim.Native.Nat.{_<_};
 ghost use lib.ListN.{length};
 ghost use Rattle.text.specs.Texts.{placed};
-ghost use Rattle.permit.specs.Output.{numberOf, answerOf, lentAfter};
+ghost use Rattle.permit.specs.Output.{writtenNumber, writtenOf, lentAfter};
 ghost use Rattle.tenants.specs.Together.{quotaSum};
 ghost use Rattle.layout.specs.Layout.{settingsPlace, settingBytes, allBytes, bookSize, bookBytes, eachFrom, zeros};
 ghost use Rattle.book.specs.Opening.{firstSetting, emptyBook, areGiven, opened};
@@ -111,7 +111,7 @@ fn put_empty(book: &mut [u8], quotas: &[u16], ids: &[u8])
 
 // Writes an empty book of sixteen quotas and Data Server IDs, warning days 30: 101 for another length than a book's, 103 where these are not good.
 pub fn open_book(book: &mut [u8], quotas: &[u16], ids: &[u8]) -> u32
-    ensures { λ r. ⌜ (r ≡ numberOf (answerOf (opened (now (quotas .entry)) (now (ids .entry)) (now (book .entry)))))
+    ensures { λ r. ⌜ (r ≡ writtenNumber (writtenOf (opened (now (quotas .entry)) (now (ids .entry)) (now (book .entry)))))
         × (now (book .exit) ≡ lentAfter (opened (now (quotas .entry)) (now (ids .entry)) (now (book .entry))) (now (book .entry))) ⌝ }
 {
     if book.len() != BOOK_SIZE {

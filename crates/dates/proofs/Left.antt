@@ -6,16 +6,16 @@ use native.Mathlib.Omega.{arith}
 use borrow.Author.Tests.{lt-ltb, le-ltb}
 use lib.IntN.{ℤ, pos, negsuc, _-ℤ_}
 use Rattle.dates.specs.Calendar.{dayNumber}
-use Rattle.dates.specs.Notice.{daysLeft, formOf, leftOf, daysOf, noticeOf}
+use Rattle.dates.specs.Notice.{daysLeft, formOf, leftOf, daysMeant, noticeOf}
 use Rattle.dates.specs.declared.DaysLeft.the-variants.{Passed, Left}
 use Rattle.dates.specs.declared.Notice.the-variants.{Expired}
 
-days-of-form : (z : ℤ) → daysOf (formOf z) ≡ z
+days-of-form : (z : ℤ) → daysMeant (formOf z) ≡ z
 unfolding formOf
 days-of-form (negsuc n) = refl
 days-of-form (pos n) = refl
 
-pub days-of-left : (today expiry : ℕ) → daysOf (leftOf today expiry) ≡ daysLeft today expiry
+pub days-of-left : (today expiry : ℕ) → daysMeant (leftOf today expiry) ≡ daysLeft today expiry
 unfolding leftOf
 days-of-left today expiry = days-of-form (daysLeft today expiry)
 
@@ -30,7 +30,7 @@ module _ (today expiry n : ℕ) where
   passed-expired = passed-below-zero (daysLeft today expiry) n
 
   pub left-days : leftOf today expiry ≡ Left n → daysLeft today expiry ≡ pos n
-  left-days e = sym (days-of-left today expiry) ∙ ap daysOf e
+  left-days e = sym (days-of-left today expiry) ∙ ap daysMeant e
 
 -- a difference with its sign, by which number is the greater
 below-zero : (t e : ℕ) → e < t → pos e -ℤ pos t ≡ negsuc (t - suc e)

@@ -23,9 +23,9 @@ unfoldable pub leftOf : ℕ → ℕ → DaysLeft
 leftOf today expiry = formOf (daysLeft today expiry)
 
 -- what a value of that form means
-abbrev pub daysOf : DaysLeft → ℤ
-daysOf (Passed n) = negℤ (pos n)
-daysOf (Left n) = pos n
+abbrev pub daysMeant : DaysLeft → ℤ
+daysMeant (Passed n) = negℤ (pos n)
+daysMeant (Left n) = pos n
 
 -- days left below zero: expired; from zero to less than the warning days: soon; otherwise current
 unfoldable pub noticeOf : ℤ → ℕ → Notice
@@ -33,7 +33,7 @@ noticeOf (negsuc n) days = Expired
 noticeOf (pos n) days = cond (ltb n days) Soon Current
 
 -- the notice's number
-abbrev pub numberOf : Notice → ℕ
-numberOf Current = 0
-numberOf Soon = 20
-numberOf Expired = 15
+abbrev pub noticeNumber : Notice → ℕ
+noticeNumber Current = 0
+noticeNumber Soon = 20
+noticeNumber Expired = 15

@@ -2,7 +2,7 @@
 ghost use mathlib.Core.Path.{_≡_};
 ghost use Prim.Native.Nat.{_≤_};
 ghost use Rattle.dates.specs.Calendar.{isLeap, daysIn, within, isDate, daysBeforeMonth, dayNumber};
-ghost use Rattle.dates.specs.Notice.{daysLeft, leftOf, noticeOf, numberOf};
+ghost use Rattle.dates.specs.Notice.{daysLeft, leftOf, noticeOf, noticeNumber};
 
 // What an expiry says today.
 pub enum Notice {
@@ -119,7 +119,7 @@ pub fn notice_of(today: u32, expiry: u32, days: u32) -> Notice
 
 // The number that comes back for a notice.
 pub fn notice_number(notice: Notice) -> u32
-    ensures { λ r. ⌜ r ≡ numberOf notice ⌝ }
+    ensures { λ r. ⌜ r ≡ noticeNumber notice ⌝ }
 {
     match notice {
         Notice::Current => 0,

@@ -7,7 +7,7 @@ use lib.IntN.{ℤ, pos, negℤ}
 use lib.ListN.{getD}
 use Rattle.text.specs.Places.{numberAt}
 use Rattle.dates.specs.Calendar.{isDate}
-use Rattle.dates.specs.Notice.{daysLeft, noticeOf, numberOf}
+use Rattle.dates.specs.Notice.{daysLeft, noticeOf, noticeNumber}
 use Rattle.permit.specs.Identifiers.{hwId6}
 use Rattle.permit.specs.UserPermit.{mIdPart}
 use Rattle.permit.specs.Line.{givenNumber}
@@ -60,7 +60,7 @@ rows =
 
 -- the number that comes back for an expiry, at 30 warning days
 abbrev pub numberAt30 : ℕ → ℕ → ℕ
-numberAt30 today expiry = numberOf (noticeOf (daysLeft today expiry) 30)
+numberAt30 today expiry = noticeNumber (noticeOf (daysLeft today expiry) 30)
 
 -- the used length that a book tells
 abbrev pub usedIn : List ℕ → ℕ

@@ -9,7 +9,7 @@ use Rattle.blowfish.proofs.Keys.{done-is-key, refused-is-none}
 use Rattle.lambukir.specs.declared.Block.{Block}
 use Rattle.lambukir.specs.Blocks.{underKey}
 use Rattle.permit.specs.Output as output
-use Rattle.permit.specs.Line.{numberOf}
+use Rattle.permit.specs.Line.{lineNumber}
 use Rattle.permit.specs.declared.Written.{Written}
 use Rattle.permit.specs.declared.Written.the-variants as written
 use Rattle.permit.specs.declared.line.Line.{Line}
@@ -37,7 +37,7 @@ module _ (work : List ℕ → ℕ → ℕ) (key : List ℕ) (x : ℕ) where
       ∙ ap (λ (b : Bool). cond b (work (schedule key) x) 0) (sym key-is))
       (sym z ∙ e)
 
-pub written-number : (a : Written) → textWritten a .number ≡ output.numberOf a
+pub written-number : (a : Written) → textWritten a .number ≡ output.writtenNumber a
 written-number (written.Length n) = refl
 written-number (written.Refused n) = refl
 
@@ -53,5 +53,5 @@ recordRead r n = record {
   number = n;
 }
 
-pub record-read : (a : Line) (r : Record) (n : ℕ) → a ≡ line.Record r → n ≡ numberOf (line.Record r) → recordRead r n ≡ lineRead a
+pub record-read : (a : Line) (r : Record) (n : ℕ) → a ≡ line.Record r → n ≡ lineNumber (line.Record r) → recordRead r n ≡ lineRead a
 record-read a r n is number = ap (recordRead r) number ∙ sym (ap lineRead is)

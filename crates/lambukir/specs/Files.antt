@@ -1,6 +1,6 @@
 -- The answers about permit files in the form that C sees.
 use Prim.Native.Nat.{ℕ}
-use Rattle.permit.specs.Line.{numberOf}
+use Rattle.permit.specs.Line.{lineNumber}
 use Rattle.permit.specs.declared.line.Line.the-variants as line
 use Rattle.permit_file.specs.declared.Opened.{Opened}
 use Rattle.permit_file.specs.declared.Opened.the-variants as opened
@@ -40,7 +40,7 @@ fileLineRead (step.Record r c) = record {
   level = r .level;
   edition = r .edition;
   server = r .server;
-  number = numberOf (line.Record r);
+  number = lineNumber (line.Record r);
   end = 0;
 }
 fileLineRead (step.Refused n c) = noRecord (c .place) n 0

@@ -2,7 +2,7 @@
 use mathlib.Core.List.{List}
 use Prim.Native.Nat.{ℕ, _-_}
 use lib.ListN.{length}
-use Rattle.permit.specs.Line.{commentAt, numberOf}
+use Rattle.permit.specs.Line.{commentAt, lineNumber}
 use Rattle.permit.specs.declared.Written.{Written}
 use Rattle.permit.specs.declared.Written.the-variants as written
 use Rattle.permit.specs.declared.line.Cell.{Cell}
@@ -18,8 +18,8 @@ use Rattle.lambukir.specs.declared.permits.TextWritten.{TextWritten}
 use Rattle.lambukir.specs.declared.permits.Part.{Part}
 
 -- what a line is written from
-abbrev pub cellOf : ℕ → ℕ → ℕ → ℕ → ℕ → ℕ → ℕ → Cell
-cellOf name expiry key1 key2 level edition server = record {
+abbrev pub cellFrom : ℕ → ℕ → ℕ → ℕ → ℕ → ℕ → ℕ → Cell
+cellFrom name expiry key1 key2 level edition server = record {
   name = name;
   key1 = key1;
   key2 = key2;
@@ -44,7 +44,7 @@ lineRead (line.Record r) = record {
   level = r .level;
   edition = r .edition;
   server = r .server;
-  number = numberOf (line.Record r);
+  number = lineNumber (line.Record r);
 }
 lineRead (line.Refused n) = record {
   name = 0;

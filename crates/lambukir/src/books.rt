@@ -1,9 +1,9 @@
 // The book for C.
 ghost use mathlib.Core.Path.{_≡_};
 ghost use lib.ListN.{length};
-ghost use Rattle.permit.specs.Output.{answerOf, lentAfter};
+ghost use Rattle.permit.specs.Output.{writtenOf, lentAfter};
 ghost use Rattle.permit.specs.Output as output;
-ghost use Rattle.tenants.specs.Rules.{numberOf};
+ghost use Rattle.tenants.specs.Rules.{changeNumber};
 ghost use Rattle.book.specs.Opening.{opened};
 ghost use Rattle.book.specs.OnBook.{entry, withdrawal, newDays, bytesAfter, editionIn, issuedFrom, checkedBy};
 ghost use Rattle.lambukir.specs.Permits.{lineRead, textWritten};
@@ -24,7 +24,7 @@ pub struct EditionAsked {
 
 #[no_mangle]
 pub extern "C" fn lambukir_open_book(book: &mut [u8], quotas: &[u16], ids: &[u8]) -> u32
-    ensures { λ r. ⌜ (r ≡ output.numberOf (answerOf (opened (now (quotas .entry)) (now (ids .entry)) (now (book .entry)))))
+    ensures { λ r. ⌜ (r ≡ output.writtenNumber (writtenOf (opened (now (quotas .entry)) (now (ids .entry)) (now (book .entry)))))
         × (now (book .exit) ≡ lentAfter (opened (now (quotas .entry)) (now (ids .entry)) (now (book .entry))) (now (book .entry))) ⌝ }
 {
     book::opening::open_book(book, quotas, ids)
@@ -39,7 +39,7 @@ pub extern "C" fn lambukir_enter(
     key1: u64,
     key2: u64,
 ) -> u32
-    ensures { λ r. ⌜ (r ≡ numberOf (entry (now (book .entry)) tenant (heldOf name edition key1 key2)))
+    ensures { λ r. ⌜ (r ≡ changeNumber (entry (now (book .entry)) tenant (heldOf name edition key1 key2)))
         × (now (book .exit) ≡ bytesAfter tenant (entry (now (book .entry)) tenant (heldOf name edition key1 key2)) (now (book .entry))) ⌝ }
 {
     let cell = Held {
@@ -53,7 +53,7 @@ pub extern "C" fn lambukir_enter(
 
 #[no_mangle]
 pub extern "C" fn lambukir_withdraw(book: &mut [u8], tenant: u32, name: u64) -> u32
-    ensures { λ r. ⌜ (r ≡ numberOf (withdrawal (now (book .entry)) tenant name))
+    ensures { λ r. ⌜ (r ≡ changeNumber (withdrawal (now (book .entry)) tenant name))
         × (now (book .exit) ≡ bytesAfter tenant (withdrawal (now (book .entry)) tenant name) (now (book .entry))) ⌝ }
 {
     book::changing::withdraw(book, tenant, name)
@@ -61,7 +61,7 @@ pub extern "C" fn lambukir_withdraw(book: &mut [u8], tenant: u32, name: u64) -> 
 
 #[no_mangle]
 pub extern "C" fn lambukir_set_days(book: &mut [u8], tenant: u32, days: u32) -> u32
-    ensures { λ r. ⌜ (r ≡ numberOf (newDays (now (book .entry)) tenant days))
+    ensures { λ r. ⌜ (r ≡ changeNumber (newDays (now (book .entry)) tenant days))
         × (now (book .exit) ≡ bytesAfter tenant (newDays (now (book .entry)) tenant days) (now (book .entry))) ⌝ }
 {
     book::changing::set_days(book, tenant, days)
@@ -88,7 +88,7 @@ pub extern "C" fn lambukir_issue(
     permit: &[u8],
     out: &mut [u8],
 ) -> TextWritten
-    ensures { λ r. ⌜ (r ≡ textWritten (answerOf (issuedFrom (now (book .entry)) (now (register .entry)) tenant name expiry level (now (permit .entry)) (length (now (out .entry))))))
+    ensures { λ r. ⌜ (r ≡ textWritten (writtenOf (issuedFrom (now (book .entry)) (now (register .entry)) tenant name expiry level (now (permit .entry)) (length (now (out .entry))))))
         × (now (out .exit) ≡ lentAfter (issuedFrom (now (book .entry)) (now (register .entry)) tenant name expiry level (now (permit .entry)) (length (now (out .entry)))) (now (out .entry))) ⌝ }
 {
     text_written(book::asking::issue(book, register, tenant, name, expiry, level, permit, out))

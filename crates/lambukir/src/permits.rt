@@ -1,11 +1,11 @@
 // Permits for C.
 ghost use mathlib.Core.Path.{_≡_};
 ghost use lib.ListN.{length};
-ghost use Rattle.permit.specs.Output.{answerOf, lentAfter, numberOf};
+ghost use Rattle.permit.specs.Output.{writtenOf, lentAfter, writtenNumber};
 ghost use Rattle.permit.specs.UserPermit.{made, readPermit};
 ghost use Rattle.permit.specs.CellPermit.{writtenLine};
 ghost use Rattle.permit.specs.Line.{readLine};
-ghost use Rattle.lambukir.specs.Permits.{cellOf, userPermitRead, lineRead, textWritten, commentPart};
+ghost use Rattle.lambukir.specs.Permits.{cellFrom, userPermitRead, lineRead, textWritten, commentPart};
 use permit::Written;
 use permit::line::Cell;
 use permit::line::CommentPlace;
@@ -105,7 +105,7 @@ pub(crate) fn text_written(answer: Written) -> TextWritten
 
 #[no_mangle]
 pub extern "C" fn lambukir_make_user_permit(register: &[u8], hw: u64, m: u32, out: &mut [u8]) -> u32
-    ensures { λ r. ⌜ (r ≡ numberOf (answerOf (made (now (register .entry)) hw m (length (now (out .entry))))))
+    ensures { λ r. ⌜ (r ≡ writtenNumber (writtenOf (made (now (register .entry)) hw m (length (now (out .entry))))))
         × (now (out .exit) ≡ lentAfter (made (now (register .entry)) hw m (length (now (out .entry)))) (now (out .entry))) ⌝ }
 {
     text_written(permit::user_permit::make_user_permit(register, hw, m, out)).number
@@ -153,8 +153,8 @@ pub extern "C" fn lambukir_write_line(
     server: u32,
     out: &mut [u8],
 ) -> TextWritten
-    ensures { λ r. ⌜ (r ≡ textWritten (answerOf (writtenLine hw (cellOf name expiry key1 key2 level edition server) (length (now (out .entry))))))
-        × (now (out .exit) ≡ lentAfter (writtenLine hw (cellOf name expiry key1 key2 level edition server) (length (now (out .entry)))) (now (out .entry))) ⌝ }
+    ensures { λ r. ⌜ (r ≡ textWritten (writtenOf (writtenLine hw (cellFrom name expiry key1 key2 level edition server) (length (now (out .entry))))))
+        × (now (out .exit) ≡ lentAfter (writtenLine hw (cellFrom name expiry key1 key2 level edition server) (length (now (out .entry)))) (now (out .entry))) ⌝ }
 {
     let cell = Cell {
         name,

@@ -30,7 +30,7 @@ use Rattle.layout.specs.Layout.{
   recordPlace,
   settingAt,
   recordAt,
-  countOf,
+  recordCount,
   eachFrom,
   bookOf,
   isBook,
@@ -46,15 +46,15 @@ use Rattle.layout.proofs.Written.{zeros-part, setting-written, record-w
 pub record Frame (s : List ℕ) : Type 0 where
   pub size : length s ≡ bookSize
   pub version : getD s 0 0 ≡ 1
-  pub used : numberAt 4 s 1 ≡ usedLength (countOf s)
-  pub few : countOf s ≤ 512
+  pub used : numberAt 4 s 1 ≡ usedLength (recordCount s)
+  pub few : recordCount s ≤ 512
   pub settings : (t : ℕ) → t < 16 → getD s (settingPlace t + 5) 0 ≡ 0
-  pub records : (i : ℕ) → i < countOf s → numberAt 3 s (recordPlace i + 21) ≡ 0
-  pub rest : (j : ℕ) → usedLength (countOf s) ≤ j → getD s j 0 ≡ 0
+  pub records : (i : ℕ) → i < recordCount s → numberAt 3 s (recordPlace i + 21) ≡ 0
+  pub rest : (j : ℕ) → usedLength (recordCount s) ≤ j → getD s j 0 ≡ 0
 
 module _ (s : List ℕ) (below : Below 256 s) (frame : Frame s) where
   abbrev n : ℕ
-  n = countOf s
+  n = recordCount s
 
   -- what is written of its settings and records
   abbrev settings : List ℕ
@@ -167,7 +167,7 @@ module _ (book : Book) (fits : BookFits book) where
       version : getD (bookBytes book) 0 0 ≡ 1
       version = unfold bookBytes in refl
 
-      zeros-there : (i : ℕ) → i < countOf (bookBytes book) → numberAt 3 (bookBytes book) (recordPlace i + 21) ≡ 0
+      zeros-there : (i : ℕ) → i < recordCount (bookBytes book) → numberAt 3 (bookBytes book) (recordPlace i + 21) ≡ 0
       zeros-there i h =
           let within : i < m = omega (arith, count-back book fits) in
           let none : Held = record { name = 0; edition = 0; key1 = 0; key2 = 0 } in

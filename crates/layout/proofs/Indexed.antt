@@ -6,17 +6,17 @@ use Prim.Native.Nat.{ℕ, _<_}
 use lib.ListN.{length, getD}
 use Rattle.tenants.specs.declared.Held.{Held}
 use Rattle.tenants.specs.declared.Setting.{Setting}
-use Rattle.layout.specs.Layout.{settingAt, recordAt, countOf, bookOf}
+use Rattle.layout.specs.Layout.{settingAt, recordAt, recordCount, bookOf}
 use Rattle.layout.proofs.Each.{each-count, each-is}
 
 module _ (s : List ℕ) where
-  pub book-count : length (bookOf s .records) ≡ countOf s
+  pub book-count : length (bookOf s .records) ≡ recordCount s
   unfolding bookOf
-  book-count = each-count (recordAt s) 0 (countOf s)
+  book-count = each-count (recordAt s) 0 (recordCount s)
 
-  pub book-record : (i : ℕ) (none : Held) → i < countOf s → getD (bookOf s .records) i none ≡ recordAt s i
+  pub book-record : (i : ℕ) (none : Held) → i < recordCount s → getD (bookOf s .records) i none ≡ recordAt s i
   unfolding bookOf
-  book-record i none h = each-is (recordAt s) (countOf s) i none h
+  book-record i none h = each-is (recordAt s) (recordCount s) i none h
 
   pub book-setting : (t : ℕ) (none : Setting) → t < 16 → getD (bookOf s .settings) t none ≡ settingAt s t
   unfolding bookOf

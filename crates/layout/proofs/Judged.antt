@@ -16,7 +16,7 @@ use Rattle.text.proofs.Every.{and-first, and-second, either, same-tests}
 use Rattle.text.proofs.SameTexts.{same-refl}
 use Rattle.tenants.specs.Cells.{startsAbove}
 use Rattle.tenants.specs.Together.{fullName, areSettings, quotaSum, areRecords, withinQuotas, isGood}
-use Rattle.layout.specs.Layout.{bookSize, usedLength, countOf, settingPlace, recordPlace, settingAt, recordAt, eachFrom, bookOf, isBook}
+use Rattle.layout.specs.Layout.{bookSize, usedLength, recordCount, settingPlace, recordPlace, settingAt, recordAt, eachFrom, bookOf, isBook}
 use Rattle.layout.specs.Judging.{isZero, allFrom, settingsTest, recordTests, heldFrom, quotaTest, recordsTest}
 use Rattle.layout.proofs.Promises.{undamaged-says}
 use Rattle.layout.proofs.Each.{each-count}
@@ -30,30 +30,30 @@ use Rattle.layout.proofs.TestedRecords.{first-above, tests-records, rec
 pub record Judged (s : List ℕ) : Type 0 where
   pub size : length s ≡ bookSize
   pub version : getD s 0 0 ≡ 1
-  pub few : countOf s ≤ 512
-  pub used : numberAt 4 s 1 ≡ usedLength (countOf s)
+  pub few : recordCount s ≤ 512
+  pub used : numberAt 4 s 1 ≡ usedLength (recordCount s)
   pub settings : settingsTest s ≡ true
-  pub records : recordsTest s (countOf s) ≡ true
-  pub rest : allOf isZero (drop (usedLength (countOf s)) s) ≡ true
+  pub records : recordsTest s (recordCount s) ≡ true
+  pub rest : allOf isZero (drop (usedLength (recordCount s)) s) ≡ true
 
 module _ (s : List ℕ) (below : Below 256 s) where
   abbrev held : ℕ → ℕ
-  held t = heldFrom s t 0 (countOf s)
+  held t = heldFrom s t 0 (recordCount s)
 
-  quotas-same : length s ≡ bookSize → countOf s ≤ 512
-      → allFrom (quotaTest held s) 0 16 ≡ withinQuotas 0 (eachFrom (settingAt s) 0 16) (eachFrom (recordAt s) 0 (countOf s))
+  quotas-same : length s ≡ bookSize → recordCount s ≤ 512
+      → allFrom (quotaTest held s) 0 16 ≡ withinQuotas 0 (eachFrom (settingAt s) 0 16) (eachFrom (recordAt s) 0 (recordCount s))
   quotas-same size few =
-      quotas-tested held (eachFrom (recordAt s) 0 (countOf s)) (λ t. held-cells s below t 0 (countOf s) (omega arith)) s 0 16
+      quotas-tested held (eachFrom (recordAt s) 0 (recordCount s)) (λ t. held-cells s below t 0 (recordCount s) (omega arith)) s 0 16
 
   pub book-judged : isBook s ≡ true → Judged s
   unfolding isGood bookOf settingsTest recordsTest
   book-judged undamaged =
       let frame = book-frame s undamaged in
       let h : length s ≡ bookSize = frame .size in
-      let few : countOf s ≤ 512 = frame .few in
+      let few : recordCount s ≤ 512 = frame .few in
       let good = undamaged-says s undamaged .0 in
       let settings = eachFrom (settingAt s) 0 16 in
-      let records = eachFrom (recordAt s) 0 (countOf s) in
+      let records = eachFrom (recordAt s) 0 (recordCount s) in
       let a = eqb (length settings) 16 in
       let b = areSettings settings in
       let c = leb (quotaSum settings) 512 in
@@ -75,9 +75,9 @@ module _ (s : List ℕ) (below : Below 256 s) where
             );
         records =
             rw
-            (records-tests s below 0 0 0 (countOf s) (omega arith) right (first-above records right) (λ i low high. frame .records i (omega arith)))
+            (records-tests s below 0 0 0 (recordCount s) (omega arith) right (first-above records right) (λ i low high. frame .records i (omega arith)))
             (quotas-same h few ∙ and-second (a && b && c && d && e) (withinQuotas 0 settings records) good);
-        rest = each-zero s (usedLength (countOf s)) (frame .rest);
+        rest = each-zero s (usedLength (recordCount s)) (frame .rest);
       }
 
   pub judged-book : Judged s → isBook s ≡ true
@@ -88,7 +88,7 @@ module _ (s : List ℕ) (below : Below 256 s) where
       size : length s ≡ bookSize
       size = judged .size
 
-      few : countOf s ≤ 512
+      few : recordCount s ≤ 512
       few = judged .few
 
       settings : (areSettings (eachFrom (settingAt s) 0 16) ≡ true) × ((t : ℕ) → t < 16 → getD s (settingPlace t + 5) 0 ≡ 0)
@@ -96,13 +96,13 @@ module _ (s : List ℕ) (below : Below 256 s) where
           tests-settings s (omega arith)
           (and-first (allFrom (testAt s) 0 16) (leb (quotaSum (eachFrom (settingAt s) 0 16)) 512) (unfold settingsTest in judged .settings))
 
-      tested : recordTests s 0 0 0 (countOf s) ≡ true
-      tested = and-first (recordTests s 0 0 0 (countOf s)) (allFrom (quotaTest held s) 0 16) (unfold recordsTest in judged .records)
+      tested : recordTests s 0 0 0 (recordCount s) ≡ true
+      tested = and-first (recordTests s 0 0 0 (recordCount s)) (allFrom (quotaTest held s) 0 16) (unfold recordsTest in judged .records)
 
-      records : (areRecords (eachFrom (recordAt s) 0 (countOf s)) ≡ true)
-          × (startsAbove (fullName 0 0) (eachFrom (recordAt s) 0 (countOf s)) ≡ true)
-          × ((i : ℕ) → 0 ≤ i → i < 0 + countOf s → numberAt 3 s (recordPlace i + 21) ≡ 0)
-      records = tests-records s below 0 0 0 (countOf s) (omega arith) tested
+      records : (areRecords (eachFrom (recordAt s) 0 (recordCount s)) ≡ true)
+          × (startsAbove (fullName 0 0) (eachFrom (recordAt s) 0 (recordCount s)) ≡ true)
+          × ((i : ℕ) → 0 ≤ i → i < 0 + recordCount s → numberAt 3 s (recordPlace i + 21) ≡ 0)
+      records = tests-records s below 0 0 0 (recordCount s) (omega arith) tested
 
       frame : Frame s
       frame =
@@ -113,7 +113,7 @@ module _ (s : List ℕ) (below : Below 256 s) where
             few = few;
             settings = settings .1;
             records = λ i high. records .2 i (omega arith) (omega arith);
-            rest = zeros-each s (usedLength (countOf s)) (judged .rest);
+            rest = zeros-each s (usedLength (recordCount s)) (judged .rest);
           }
 
       good : isGood (bookOf s) ≡ true
@@ -123,11 +123,11 @@ module _ (s : List ℕ) (below : Below 256 s) where
             eq-eqb (length (eachFrom (settingAt s) 0 16)) 16 (each-count (settingAt s) 0 16),
             settings .0,
             and-second (allFrom (testAt s) 0 16) (leb (quotaSum (eachFrom (settingAt s) 0 16)) 512) (unfold settingsTest in judged .settings),
-            le-leb (length (eachFrom (recordAt s) 0 (countOf s))) 512 (omega (arith, each-count (recordAt s) 0 (countOf s))),
+            le-leb (length (eachFrom (recordAt s) 0 (recordCount s))) 512 (omega (arith, each-count (recordAt s) 0 (recordCount s))),
             records .0,
           )
           (sym (quotas-same size few)
-          ∙ and-second (recordTests s 0 0 0 (countOf s)) (allFrom (quotaTest held s) 0 16) (unfold recordsTest in judged .records))
+          ∙ and-second (recordTests s 0 0 0 (recordCount s)) (allFrom (quotaTest held s) 0 16) (unfold recordsTest in judged .records))
 
   -- where a test that must be true is false, the bytes are no book
   pub test-fails : (test : Bool) → (Judged s → test ≡ true) → test ≡ false → isBook s ≡ false

@@ -7,7 +7,7 @@ use native.Mathlib.Nat.{le-of-suc-le-suc, not-suc-le-zero, zero-add, suc-add}
 use native.Mathlib.Omega.{arith}
 use lib.ListN.{length, getD, take, drop}
 use lib.Seq.{take-take, drop-drop}
-use Rattle.text.specs.Numbers.{numberOf}
+use Rattle.text.specs.Numbers.{bytesNumber}
 use Rattle.text.specs.Places.{numberAt}
 use Rattle.text.specs.Texts.{part}
 use Rattle.text.proofs.Places.{number-within, part-length}
@@ -27,7 +27,7 @@ module _ (m : ℕ) (s : List ℕ) (at : ℕ) (within : at + m ≤ length s) wher
   pub number-in-part : (n k : ℕ) → k + n ≤ m → numberAt n (part m s at) k ≡ numberAt n s (at + k)
   number-in-part n k h =
       number-within n (part m s at) k (rw (part-length m s at within) h)
-      ∙ ap numberOf (take-drop-take n k m (drop at s) h ∙ ap (take n) (drop-drop k at s))
+      ∙ ap bytesNumber (take-drop-take n k m (drop at s) h ∙ ap (take n) (drop-drop k at s))
       ∙ sym (number-within n s (at + k) (omega arith))
 
   pub byte-in-part : (k : ℕ) → k + 1 ≤ m → getD (part m s at) k 0 ≡ numberAt 1 s (at + k)

@@ -27,7 +27,7 @@ use Rattle.layout.specs.Layout.{
   recordPlace,
   settingAt,
   recordAt,
-  countOf,
+  recordCount,
   eachFrom,
   bookOf,
 }
@@ -140,8 +140,8 @@ module _ (book : Book) (fits : BookFits book) where
   unfolding bookBytes
   used-back = number-back 4 (usedLength n) 1 (1 ∷ []) (allBytes settingBytes (book .settings) ++ after) refl refl (omega (arith, fits .few))
 
-  pub count-back : countOf (bookBytes book) ≡ n
-  unfolding countOf
+  pub count-back : recordCount (bookBytes book) ≡ n
+  unfolding recordCount
   count-back = rw used-back (omega arith)
 
   all-settings : eachFrom (settingAt (bookBytes book)) 0 16 ≡ book .settings

@@ -11,7 +11,7 @@ use Rattle.text.specs.Places.{numberAt}
 use Rattle.text.proofs.Every.{either}
 use Rattle.text.proofs.Places.{number-one, number-beyond}
 use Rattle.tenants.specs.declared.Setting.{Setting}
-use Rattle.layout.specs.Layout.{settingPlace, settingAt, countOf}
+use Rattle.layout.specs.Layout.{settingPlace, settingAt, recordCount}
 
 -- the number of one byte, which is 0 beyond the end
 pub byte-number : (s : List ℕ) (at : ℕ) → numberAt 1 s at ≡ getD s at 0
@@ -22,12 +22,12 @@ byte-number s at =
     number-beyond 1 s at h ∙ sym (List·getD-eq-default s 0 (omega arith)))
 
 module _ (s : List ℕ) (used : ℕ) (is : used ≡ numberAt 4 s 1) where
-  pub count-none : used < 101 → 0 ≡ countOf s
-  unfolding countOf
+  pub count-none : used < 101 → 0 ≡ recordCount s
+  unfolding recordCount
   count-none low = let none : numberAt 4 s 1 - 101 ≡ 0 = omega arith in rw none refl
 
-  pub count-told : (used - 101) / 24 ≡ countOf s
-  unfolding countOf
+  pub count-told : (used - 101) / 24 ≡ recordCount s
+  unfolding recordCount
   count-told = ap (λ (n : ℕ). (n - 101) / 24) is
 
 pub setting-told : (s : List ℕ) (t quota days server : ℕ) → quota ≡ numberAt 2 s (settingPlace t) → days ≡ getD s (settingPlace t + 2) 0

@@ -86,8 +86,8 @@ recordAt s i = record {
 }
 
 -- how many records the used length tells
-unfoldable pub countOf : List ℕ → ℕ
-countOf s = (numberAt 4 s 1 - recordsPlace) / recordSize
+unfoldable pub recordCount : List ℕ → ℕ
+recordCount s = (numberAt 4 s 1 - recordsPlace) / recordSize
 
 -- what is read at i, i + 1 and so on, n in all
 unfoldable pub eachFrom : {A : Type 0} → (ℕ → A) → ℕ → ℕ → List A
@@ -96,7 +96,7 @@ eachFrom at i (suc n) = at i ∷ eachFrom at (suc i) n
 
 -- what the bytes say
 unfoldable pub bookOf : List ℕ → Book
-bookOf s = record { settings = eachFrom (settingAt s) 0 16; records = eachFrom (recordAt s) 0 (countOf s) }
+bookOf s = record { settings = eachFrom (settingAt s) 0 16; records = eachFrom (recordAt s) 0 (recordCount s) }
 
 -- an undamaged book: 12,389 bytes, which are exactly those of what they say, and that is good
 unfoldable pub isBook : List ℕ → Bool

@@ -3,7 +3,7 @@ ghost use mathlib.Core.Path.{_≡_};
 ghost use Prim.Native.Nat.{_≤_};
 ghost use lib.ListN.{length, getD};
 ghost use Rattle.text.specs.Characters.{allOf};
-ghost use Rattle.layout.specs.Layout.{recordsPlace, usedLength, countOf, settingAt, isBook};
+ghost use Rattle.layout.specs.Layout.{recordsPlace, usedLength, recordCount, settingAt, isBook};
 ghost use Rattle.layout.specs.Judging.{isZero, allFrom, settingTest, settingsTest, aboveTest, recordTest, quotaTest, recordsTest};
 use permit::identifiers::is_cell_name;
 use permit::identifiers::is_server_id;
@@ -33,7 +33,7 @@ pub const MOST_RECORDS: usize = 512;
 
 // How many records the used length tells.
 pub fn count(book: &[u8]) -> usize
-    ensures { λ r. ⌜ r ≡ countOf (now (book .entry)) ⌝ }
+    ensures { λ r. ⌜ r ≡ recordCount (now (book .entry)) ⌝ }
 {
     let used = number32(book, 1) as usize;
     if used < RECORDS_PLACE {

@@ -8,7 +8,7 @@ use native.Mathlib.Nat.{not-suc-le-zero}
 use native.Mathlib.Omega.{arith}
 use lib.ListN.{length, getD, drop, length-append}
 use lib.Seq.{drop-at, getD-at}
-use Rattle.text.specs.Numbers.{bytesOf, numberOf}
+use Rattle.text.specs.Numbers.{bytesOf, bytesNumber}
 use Rattle.text.specs.Characters.{allOf}
 use Rattle.text.specs.Places.{numberAt}
 use Rattle.text.specs.Texts.{part, allAt}
@@ -64,5 +64,5 @@ module _ {s : List ℕ} {at : ℕ} where
   number-there n x rest from fits =
       let size : length (bytesOf n x) ≡ n = digits-length 256 n x in
       number-within n s at (within (bytesOf n x) rest from n size)
-      ∙ ap numberOf (part-there (bytesOf n x) rest from n size)
+      ∙ ap bytesNumber (part-there (bytesOf n x) rest from n size)
       ∙ value-digits-fit 256 n x (omega arith) fits

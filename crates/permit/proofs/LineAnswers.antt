@@ -10,7 +10,7 @@ use lib.ListN.{length, length-append}
 use Rattle.text.specs.Texts.{placed, width}
 use Rattle.text.proofs.PlacedTexts.{placed-start}
 use Rattle.permit.specs.Identifiers.{isHwId}
-use Rattle.permit.specs.Output.{answerOf, lentAfter}
+use Rattle.permit.specs.Output.{writtenOf, lentAfter}
 use Rattle.permit.specs.CellPermit.{shipWords, lineOf, lineEnd, isCell, writtenLine}
 use Rattle.permit.specs.declared.Written.{Written}
 use Rattle.permit.specs.declared.Written.the-variants.{Length, Refused}
@@ -28,7 +28,7 @@ written-size words cell n digits = simp length-append (omega (arith, line-size w
 module _ (hw : ℕ) (cell : Cell) (out : List ℕ) where
   -- what comes back and what the lent output then is
   abbrev Answered : Written → List ℕ → Type 0
-  Answered r after = (r ≡ answerOf (writtenLine hw cell (length out))) × (after ≡ lentAfter (writtenLine hw cell (length out)) out)
+  Answered r after = (r ≡ writtenOf (writtenLine hw cell (length out))) × (after ≡ lentAfter (writtenLine hw cell (length out)) out)
 
   pub no-room : length out < 76 → Answered (Refused 108) out
   unfolding writtenLine

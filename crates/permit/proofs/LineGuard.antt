@@ -22,7 +22,7 @@ use Rattle.permit.specs.Order.{demand}
 use Rattle.permit.specs.DateText.{isDateAt}
 use Rattle.permit.specs.CellPermit.{shipWords, checkOf}
 use Rattle.permit.specs.Line.{isPermit, isTail, isLine, partsOf, keyUnder, recordOf, checked, readWith, givenNumber, readLine}
-use Rattle.permit.specs.OneCharacter.{isRecord, LineGuarded}
+use Rattle.permit.specs.OneCharacter.{isAccepted, LineGuarded}
 use Rattle.permit.specs.declared.line.Line.{Line}
 use Rattle.permit.specs.declared.line.Line.the-variants.{Refused}
 use Rattle.permit.proofs.OnePlace.{part-before, part-after, part-differs}
@@ -30,15 +30,15 @@ use Rattle.permit.proofs.ShipCipher.{ship-words, same-crc}
 
 module _ (n : ℕ) where
   -- what is accepted passed each test, and what fails a test is refused
-  passed : (test : Bool) (next : Line) → isRecord (demand test (Refused n) next) ≡ true → test ≡ true
+  passed : (test : Bool) (next : Line) → isAccepted (demand test (Refused n) next) ≡ true → test ≡ true
   passed true next e = refl
   passed false next e = e
 
-  after : (test : Bool) (next : Line) → isRecord (demand test (Refused n) next) ≡ true → isRecord next ≡ true
+  after : (test : Bool) (next : Line) → isAccepted (demand test (Refused n) next) ≡ true → isAccepted next ≡ true
   after true next e = e
   after false next e = cc
 
-  refused-after : (test : Bool) (next : Line) → (test ≡ true → isRecord next ≡ false) → isRecord (demand test (Refused n) next) ≡ false
+  refused-after : (test : Bool) (next : Line) → (test ≡ true → isAccepted next ≡ false) → isAccepted (demand test (Refused n) next) ≡ false
   refused-after true next e = e refl
   refused-after false next e = refl
 
@@ -110,11 +110,11 @@ line-guarded hw today days i s t bs bt small d accepted =
     recordFor : List ℕ → Line
     recordFor l = recordOf today days (partsOf l) (keyUnder words (partsOf l .block1)) (keyUnder words (partsOf l .block2))
 
-    with-given : isRecord (readWith words today days s) ≡ true
+    with-given : isAccepted (readWith words today days s) ≡ true
     with-given = after g (eqb g 0) (readWith words today days s) accepted
 
     s-line : isLine s ≡ true
     s-line = passed 12 (isLine s) (checked words today days s (partsOf s)) with-given
 
-    with-line : isRecord (checked words today days s (partsOf s)) ≡ true
+    with-line : isAccepted (checked words today days s (partsOf s)) ≡ true
     with-line = after 12 (isLine s) (checked words today days s (partsOf s)) with-given

@@ -129,9 +129,9 @@ readLine hw today days line =
     (readWith (shipWords hw) today days line)
 
 -- the answer's number: a record's is that of its notice
-abbrev pub numberOf : Line → ℕ
-numberOf (Record r) = notice.numberOf (r .notice)
-numberOf (Refused n) = n
+abbrev pub lineNumber : Line → ℕ
+lineNumber (Record r) = notice.noticeNumber (r .notice)
+lineNumber (Refused n) = n
 
 -- where the comment begins; none for a line that gives 12
 unfoldable pub commentAt : List ℕ → CommentPlace

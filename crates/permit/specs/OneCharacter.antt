@@ -24,12 +24,12 @@ UserPermitGuarded =
     → isShip (readPermit register s) ≡ true → isShip (readPermit register t) ≡ false
 
 -- the line is accepted
-abbrev pub isRecord : Line → Bool
-isRecord (line.Record r) = true
-isRecord (line.Refused n) = false
+abbrev pub isAccepted : Line → Bool
+isAccepted (line.Record r) = true
+isAccepted (line.Refused n) = false
 
 -- an accepted line with any one of its permit's 64 characters changed to any other byte is refused
 abbrev pub LineGuarded : Type 0
 LineGuarded =
     (hw today days i : ℕ) (s t : List ℕ) → Below 256 s → Below 256 t → i < 64 → DifferAt i s t
-    → isRecord (readLine hw today days s) ≡ true → isRecord (readLine hw today days t) ≡ false
+    → isAccepted (readLine hw today days s) ≡ true → isAccepted (readLine hw today days t) ≡ false

@@ -11,9 +11,9 @@ pub data Output : Type 0 where
   refusal : ℕ → Output
 
 -- the answer: the text's length, or the refusal
-abbrev pub answerOf : Output → Written
-answerOf (text t) = written.Length (length t)
-answerOf (refusal n) = written.Refused n
+abbrev pub writtenOf : Output → Written
+writtenOf (text t) = written.Length (length t)
+writtenOf (refusal n) = written.Refused n
 
 -- the lent output afterwards: the text at its start and nothing else, or as it was
 abbrev pub lentAfter : Output → List ℕ → List ℕ
@@ -21,6 +21,6 @@ lentAfter (text t) out = t ++ drop (length t) out
 lentAfter (refusal n) out = out
 
 -- the answer's number: 0 for done
-abbrev pub numberOf : Written → ℕ
-numberOf (written.Length n) = 0
-numberOf (written.Refused n) = n
+abbrev pub writtenNumber : Written → ℕ
+writtenNumber (written.Length n) = 0
+writtenNumber (written.Refused n) = n

@@ -86,6 +86,6 @@ readPermit register permit =
     (readUnder (keyOf register (permitMId permit)) permit)))
 
 -- the answer's number: 0 for a ship
-abbrev pub numberOf : UserPermit → ℕ
-numberOf (Ship hw m) = 0
-numberOf (Refused n) = n
+abbrev pub userPermitNumber : UserPermit → ℕ
+userPermitNumber (Ship hw m) = 0
+userPermitNumber (Refused n) = n

@@ -4,7 +4,7 @@ ghost use Prim.Native.Nat.{_≤_};
 ghost use lib.ListN.{getD};
 ghost use Rattle.text.specs.Characters.{isDigit};
 ghost use Rattle.permit.specs.CellPermit.{shipWords, checkOf};
-ghost use Rattle.permit.specs.Line.{commaAt, editionLength, shapeOf, commentOf, commentAt, keyUnder, givenNumber, readWith, readLine, numberOf};
+ghost use Rattle.permit.specs.Line.{commaAt, editionLength, shapeOf, commentOf, commentAt, keyUnder, givenNumber, readWith, readLine, lineNumber};
 ghost use Rattle.permit.specs.LineParts.{permitOf, isLevelPart, isServerPart, fieldsOf};
 use text::characters::Alphabet;
 use text::numbers::Reading;
@@ -305,7 +305,7 @@ pub fn read_with(words: &[u32; 1042], today: u32, days: u32, line: &[u8]) -> Lin
 
 // The answer's number: a record's is that of its notice.
 pub fn line_number(line: Line) -> u32
-    ensures { λ r. ⌜ r ≡ numberOf line ⌝ }
+    ensures { λ r. ⌜ r ≡ lineNumber line ⌝ }
 {
     match line {
         Line::Record(r) => {

@@ -5,7 +5,7 @@ ghost use Prim.Native.Nat.{_≤_};
 ghost use lib.ListN.{length, drop};
 ghost use Rattle.text.specs.Padding.{padOf, unpadOf};
 ghost use Rattle.blowfish.specs.Cipher.{encipherOf, decipherOf};
-ghost use Rattle.permit.specs.Output.{answerOf, lentAfter};
+ghost use Rattle.permit.specs.Output.{writtenOf, lentAfter};
 ghost use Rattle.permit.specs.UserPermit.{makerWords, userPermit, made, shipOf, readPermit};
 use super::Written;
 use super::identifiers::is_hw_id;
@@ -55,7 +55,7 @@ fn put_permit(key: u64, hw: u64, m: u32, out: &mut [u8])
 
 // The user permit of the HW_ID hw for the manufacturer whose M_ID is m: 28 characters.
 pub fn make_user_permit(register: &[u8], hw: u64, m: u32, out: &mut [u8]) -> Written
-    ensures { λ r. ⌜ (r ≡ answerOf (made (now (register .entry)) hw m (length (now (out .entry))))) × (now (out .exit) ≡ lentAfter (made (now (register .entry)) hw m (length (now (out .entry)))) (now (out .entry))) ⌝ }
+    ensures { λ r. ⌜ (r ≡ writtenOf (made (now (register .entry)) hw m (length (now (out .entry))))) × (now (out .exit) ≡ lentAfter (made (now (register .entry)) hw m (length (now (out .entry)))) (now (out .entry))) ⌝ }
 {
     if !is_register(register) {
         return Written::Refused(109);

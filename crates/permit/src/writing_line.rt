@@ -7,7 +7,7 @@ ghost use lib.ListN.{length};
 ghost use Rattle.text.specs.Numbers.{bytesOf};
 ghost use Rattle.text.specs.Characters.{decimalText};
 ghost use Rattle.text.specs.Texts.{placed, width};
-ghost use Rattle.permit.specs.Output.{answerOf, lentAfter};
+ghost use Rattle.permit.specs.Output.{writtenOf, lentAfter};
 ghost use Rattle.permit.specs.CellPermit.{keyPart, unchecked, cellPermit, comma, fields, lineOf, lineEnd, isCell, writtenLine};
 use super::Written;
 use super::line::Cell;
@@ -112,7 +112,7 @@ fn put_line(words: &[u32; 1042], cell: Cell, out: &mut [u8]) -> usize
 
 // Writes the line of a cell for a ship: 108 where out has less than 76 bytes, 103 for a value out of its range or alphabet, 18 for a wrong HW_ID.
 pub fn write_line(hw: u64, cell: Cell, out: &mut [u8]) -> Written
-    ensures { λ r. ⌜ (r ≡ answerOf (writtenLine hw cell (length (now (out .entry))))) × (now (out .exit) ≡ lentAfter (writtenLine hw cell (length (now (out .entry)))) (now (out .entry))) ⌝ }
+    ensures { λ r. ⌜ (r ≡ writtenOf (writtenLine hw cell (length (now (out .entry))))) × (now (out .exit) ≡ lentAfter (writtenLine hw cell (length (now (out .entry)))) (now (out .entry))) ⌝ }
 {
     if out.len() < 76 {
         return Written::Refused(108);

@@ -8,7 +8,7 @@ ghost use Rattle.text.specs.Padding.{padOf, unpadOf};
 ghost use Rattle.blowfish.specs.Cipher.{encipherOf, decipherOf};
 ghost use Rattle.blowfish.specs.Schedule.{keyNumber, scheduled};
 ghost use Rattle.dates.specs.Calendar.{isDate, dayNumber};
-ghost use Rattle.dates.specs.Notice.{daysLeft, leftOf, noticeOf, numberOf};
+ghost use Rattle.dates.specs.Notice.{daysLeft, leftOf, noticeOf, noticeNumber};
 ghost use Rattle.probe.specs.Forms.{daysForm, unpaddedForm};
 
 #[repr(C)]
@@ -70,7 +70,7 @@ pub extern "C" fn probe_days_left(today: u32, expiry: u32) -> ProbeDaysLeft
 
 #[no_mangle]
 pub extern "C" fn probe_notice(today: u32, expiry: u32, days: u32) -> u32
-    ensures { λ r. ⌜ r ≡ numberOf (noticeOf (daysLeft today expiry) days) ⌝ }
+    ensures { λ r. ⌜ r ≡ noticeNumber (noticeOf (daysLeft today expiry) days) ⌝ }
 {
     dates::notice_number(dates::notice_of(today, expiry, days))
 }

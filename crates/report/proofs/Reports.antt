@@ -12,7 +12,7 @@ use Rattle.text.specs.Texts.{width, placed}
 use Rattle.text.proofs.Every.{either}
 use Rattle.text.proofs.Numerals.{numeral-length, width-at-most}
 use Rattle.text.proofs.PlacedTexts.{placed-start}
-use Rattle.permit.specs.Output.{text, refusal, answerOf, lentAfter}
+use Rattle.permit.specs.Output.{text, refusal, writtenOf, lentAfter}
 use Rattle.permit.specs.declared.Written.the-variants as written
 use Rattle.permit.specs.CellPermit.{shipWords}
 use Rattle.permit.specs.Line.{readWith, givenNumber}
@@ -154,7 +154,7 @@ module _ (input out : List ℕ) (room : roomFor input ≤ length out) (fits : le
 
   -- a report that is put at the output's start is the answer
   pub answered : (end : ℕ) (after : List ℕ) → end ≡ length (report input) → after ≡ placed 0 (report input) out
-      → (written.Length end ≡ answerOf (reported input (length out))) × (after ≡ lentAfter (reported input (length out)) out)
+      → (written.Length end ≡ writtenOf (reported input (length out))) × (after ≡ lentAfter (reported input (length out)) out)
   answered end after size put = rw told (ap written.Length size, put ∙ placed-start (report input) out fits)
 
 pub same-answers : (input words file : List ℕ) (today days : ℕ)

@@ -21,7 +21,7 @@ use Rattle.dates.specs.Notice as notice
 use Rattle.dates.specs.declared.Notice.{Notice}
 use Rattle.dates.specs.declared.Notice.the-variants.{Current, Soon, Expired}
 use Rattle.permit.specs.CellPermit.{checkOf}
-use Rattle.permit.specs.Line.{numberOf, readWith, checked, recordOf, keyUnder, partsOf, isLine}
+use Rattle.permit.specs.Line.{lineNumber, readWith, checked, recordOf, keyUnder, partsOf, isLine}
 use Rattle.permit.specs.declared.line.Line.{Line}
 use Rattle.permit.specs.declared.line.Line.the-variants as line
 use Rattle.permit_file.specs.File.{cursor, stepBy, onward, lineEnds, lineAt, endsAt, firstPlace}
@@ -29,7 +29,7 @@ use Rattle.permit_file.specs.Steps.{isEnd, nextPlace}
 use Rattle.permit_file.specs.declared.Cursor.{Cursor}
 use Rattle.permit_file.specs.declared.Step.{Step}
 use Rattle.permit_file.specs.declared.Step.the-variants.{Record, Refused, End}
-use Rattle.report.specs.LookThrough.{following, answersFrom, encAnswers, nameOf, isNoticed, isRefused, rowOf, rowsFrom, countOf, lineEndsIn, roomFor}
+use Rattle.report.specs.LookThrough.{following, answersFrom, encAnswers, nameShown, isNoticed, isRefused, rowOf, rowsFrom, countOf, lineEndsIn, roomFor}
 use Rattle.report.specs.Enough.{RoomEnough}
 use Rattle.report.specs.Turns.{Few, rowEnd, tallyOf}
 use Rattle.report.proofs.Answers.{rises, enough}
@@ -37,7 +37,7 @@ use Rattle.report.proofs.LineEnds.{fewer-after, line-passed, two-bytes-
 
 -- a step's number
 abbrev stepNumber : Step → ℕ
-stepNumber (Record r c) = numberOf (line.Record r)
+stepNumber (Record r c) = lineNumber (line.Record r)
 stepNumber (Refused n c) = n
 stepNumber (End c) = 0
 
@@ -56,13 +56,13 @@ demanded P false a b pa pb = pa
 
 -- each line that is read has a number of two digits
 abbrev pub Short : (List ℕ → Line) → Type 0
-Short read = (s : List ℕ) → numberOf (read s) < 100
+Short read = (s : List ℕ) → lineNumber (read s) < 100
 
 module _ (file : List ℕ) (place : ℕ) where
   last : Onward file place (Refused 12 (cursor (length file)))
   last = record { short = omega arith; further = λ on. inr refl }
 
-  next : (a : Line) (c : Cursor) → numberOf a < 100 → Past file place (c .place) → Onward file place (onward a c)
+  next : (a : Line) (c : Cursor) → lineNumber a < 100 → Past file place (c .place) → Onward file place (onward a c)
   next (line.Record r) c h far = record { short = h; further = λ on. far }
   next (line.Refused n) c h far = record { short = h; further = λ on. far }
 
@@ -82,7 +82,7 @@ module _ (read : List ℕ → Line) (short : Short read) (file : List ℕ) where
       end : Step
       end = Refused 12 (cursor (length file))
 
-pub name-length : (a : Line) → length (nameOf a) ≡ 8
+pub name-length : (a : Line) → length (nameShown a) ≡ 8
 name-length (line.Record r) = digits-length 256 8 (r .name)
 name-length (line.Refused n) = refl
 
@@ -90,11 +90,11 @@ pub row-end-length : (a : Line) → length (rowEnd a) ≡ 10
 unfolding rowEnd
 row-end-length a = simp (length-append, name-length)
 
-row-length : (count : ℕ) (a : Line) → count < 100000 → numberOf a < 100 → length (rowOf count a) ≤ 18
+row-length : (count : ℕ) (a : Line) → count < 100000 → lineNumber a < 100 → length (rowOf count a) ≤ 18
 unfolding rowOf
 row-length count a few small =
     let five : width count ≤ 5 = width-at-most count 5 few (omega arith) in
-    let two : width (numberOf a) ≤ 2 = width-at-most (numberOf a) 2 small (omega arith) in
+    let two : width (lineNumber a) ≤ 2 = width-at-most (lineNumber a) 2 small (omega arith) in
     simp (length-append, numeral-length, name-length) (omega arith)
 
 module _ (read : List ℕ → Line) (short : Short read) (file : List ℕ) where
@@ -105,7 +105,7 @@ module _ (read : List ℕ → Line) (short : Short read) (file : List ℕ) where
       ap (λ (l : List Line). length (rowsFrom count l)) (enough read file n 0 next (omega arith) (omega arith) (omega arith))
 
   module _ (n place count : ℕ) (within : place ≤ length file) (few : count + (length file - place) < 100000) where
-    one-more : (next : ℕ) (a : Line) → numberOf a < 100 → (place < next) × (next ≤ length file)
+    one-more : (next : ℕ) (a : Line) → lineNumber a < 100 → (place < next) × (next ≤ length file)
         → Past file place next
         → length (rowsFrom (suc count) (answersFrom read file n next)) ≤ 18 * (lineEndsIn (drop next file) + 1)
         → length (rowsFrom count (a ∷ answersFrom read file n next)) ≤ 18 * (lineEndsIn (drop place file) + 1)
@@ -176,12 +176,12 @@ few-tally place answers few =
     kind : (test : Line → Bool) → countOf test answers < 100000
     kind test = omega (arith, few, kind-few test answers)
 
-notice-short : (n : Notice) → notice.numberOf n < 100
+notice-short : (n : Notice) → notice.noticeNumber n < 100
 notice-short Current = omega arith
 notice-short Soon = omega arith
 notice-short Expired = omega arith
 
-record-short : (today days : ℕ) (s : List ℕ) (one two : Reading) → numberOf (recordOf today days (partsOf s) one two) < 100
+record-short : (today days : ℕ) (s : List ℕ) (one two : Reading) → lineNumber (recordOf today days (partsOf s) one two) < 100
 record-short today days s (Number one) (Number two) = notice-short (noticeOf (daysLeft today (partsOf s .expiry)) days)
 record-short today days s (Number one) Wrong = omega arith
 record-short today days s Wrong two = omega arith
@@ -198,7 +198,7 @@ read-short words today days s =
     (λ same. record-short today days s one two))
   where
     P : Line → Type 0
-    P a = numberOf a < 100
+    P a = lineNumber a < 100
 
 pub room-enough : RoomEnough
 unfolding roomFor

@@ -11,7 +11,7 @@ use Rattle.text.specs.Texts.{part, allAt, standsAt, numeral}
 use Rattle.permit.specs.Order.{demand}
 use Rattle.permit.specs.Output.{Output, text, refusal}
 use Rattle.permit.specs.CellPermit.{shipWords, lineEnd}
-use Rattle.permit.specs.Line.{readWith, givenNumber, numberOf}
+use Rattle.permit.specs.Line.{readWith, givenNumber, lineNumber}
 use Rattle.permit.specs.declared.line.Line.{Line}
 use Rattle.permit.specs.declared.line.Line.the-variants as line
 use Rattle.permit_file.specs.File.{stepBy, firstPlace, openOf, openNumber}
@@ -71,13 +71,13 @@ unfoldable pub answersOf : List ℕ → List Line
 answersOf input = encAnswers (readWith (shipWords (hwOf input)) (todayOf input) (daysOf input)) (fileOf input)
 
 -- the cell name; eight hyphens when refused
-abbrev pub nameOf : Line → List ℕ
-nameOf (line.Record r) = bytesOf 8 (r .name)
-nameOf (line.Refused n) = replicate 8 45
+abbrev pub nameShown : Line → List ℕ
+nameShown (line.Record r) = bytesOf 8 (r .name)
+nameShown (line.Refused n) = replicate 8 45
 
 -- a line's row: its count, its number, the cell name, LF
 unfoldable pub rowOf : ℕ → Line → List ℕ
-rowOf count a = numeral count ++ ((32 ∷ numeral (numberOf a)) ++ ((32 ∷ nameOf a) ++ (10 ∷ [])))
+rowOf count a = numeral count ++ ((32 ∷ numeral (lineNumber a)) ++ ((32 ∷ nameShown a) ++ (10 ∷ [])))
 
 -- the rows of the answers, counted on from a number
 unfoldable pub rowsFrom : ℕ → List Line → List ℕ
@@ -86,7 +86,7 @@ rowsFrom count (a ∷ answers) = rowOf count a ++ rowsFrom (suc count) answers
 
 -- a record with a notice of this number: current 0, soon 20, expired 15
 abbrev pub isNoticed : ℕ → Line → Bool
-isNoticed number (line.Record r) = eqb (numberOf (line.Record r)) number
+isNoticed number (line.Record r) = eqb (lineNumber (line.Record r)) number
 isNoticed number (line.Refused n) = false
 
 -- a refused line

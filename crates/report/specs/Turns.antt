@@ -8,12 +8,12 @@ use Rattle.permit.specs.declared.line.Line.{Line}
 use Rattle.permit.specs.declared.line.Line.the-variants as line
 use Rattle.permit_file.specs.declared.Step.{Step}
 use Rattle.permit_file.specs.declared.Step.the-variants as step
-use Rattle.report.specs.LookThrough.{isNoticed, isRefused, countOf, nameOf, rowOf, rowsFrom, recordsWord, currentWord, soonWord, expiredWord, refusedWord}
+use Rattle.report.specs.LookThrough.{isNoticed, isRefused, countOf, nameShown, rowOf, rowsFrom, recordsWord, currentWord, soonWord, expiredWord, refusedWord}
 use Rattle.report.specs.declared.rows.Tally.{Tally}
 
 -- the name's end of a row
 unfoldable pub rowEnd : Line → List ℕ
-rowEnd a = (32 ∷ nameOf a) ++ (10 ∷ [])
+rowEnd a = (32 ∷ nameShown a) ++ (10 ∷ [])
 
 -- the tally at a place, where these answers stand before it
 unfoldable pub tallyOf : ℕ → List Line → Tally

@@ -5,7 +5,7 @@ ghost use Prim.Native.Nat.{_≤_};
 ghost use lib.Dec.{eqb};
 ghost use lib.ListN.{length};
 ghost use Rattle.text.specs.Texts.{placed};
-ghost use Rattle.permit.specs.Output.{answerOf, lentAfter};
+ghost use Rattle.permit.specs.Output.{writtenOf, lentAfter};
 ghost use Rattle.report.specs.LookThrough.{startNumber, report, lineEndsIn, roomFor, reported};
 ghost use Rattle.report.specs.Turns.{oneIf};
 use permit::Written;
@@ -66,7 +66,7 @@ fn list_all(input: &[u8], out: &mut [u8]) -> usize
 
 // What the look-through prints for an input, at the output's start; 108 where that has not the room for it.
 pub fn look_through(input: &[u8], out: &mut [u8]) -> Written
-    ensures { λ r. ⌜ (r ≡ answerOf (reported (now (input .entry)) (length (now (out .entry)))))
+    ensures { λ r. ⌜ (r ≡ writtenOf (reported (now (input .entry)) (length (now (out .entry)))))
         × (now (out .exit) ≡ lentAfter (reported (now (input .entry)) (length (now (out .entry)))) (now (out .entry))) ⌝ }
 {
     if out.len() < room_for(input) {

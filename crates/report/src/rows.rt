@@ -4,9 +4,9 @@ ghost use mathlib.Core.List.{_∷_, _++_};
 ghost use Prim.Native.Nat.{_+_, _*_, _≤_, _<_};
 ghost use lib.ListN.{length};
 ghost use Rattle.text.specs.Texts.{numeral, placed};
-ghost use Rattle.permit.specs.Line.{numberOf, readWith};
+ghost use Rattle.permit.specs.Line.{lineNumber, readWith};
 ghost use Rattle.permit_file.specs.File.{stepWith};
-ghost use Rattle.report.specs.LookThrough.{encAnswers, nameOf, rowOf, rowsFrom, isNoticed, isRefused, lineEndsIn};
+ghost use Rattle.report.specs.LookThrough.{encAnswers, nameShown, rowOf, rowsFrom, isNoticed, isRefused, lineEndsIn};
 ghost use Rattle.report.specs.Turns.{Few, rowEnd, oneIf, counted, movedTo, turned, rowPut, tallyOf};
 use permit::line::Line;
 use permit_file::Cursor;
@@ -43,7 +43,7 @@ pub(crate) fn put_field(out: &mut [u8], at: usize, word: &[u8], x: u64) -> usize
 }
 
 fn name_of(a: Line) -> [u8; 8]
-    ensures { λ r. ⌜ r ≡ nameOf a ⌝ }
+    ensures { λ r. ⌜ r ≡ nameShown a ⌝ }
 {
     match a {
         Line::Record(r) => text::numbers::bytes64(r.name),
@@ -65,8 +65,8 @@ fn put_row_end(out: &mut [u8], at: usize, a: Line) -> usize
 
 // Puts a blank and a line's number; answers the place after them.
 fn put_number(out: &mut [u8], at: usize, a: Line) -> usize
-    requires { ⌜ at + length (32 ∷ numeral (numberOf a)) ≤ length (now out) ⌝ }
-    ensures { λ r. ⌜ (r ≡ at + length (32 ∷ numeral (numberOf a))) × (now (out .exit) ≡ placed at (32 ∷ numeral (numberOf a)) (now (out .entry))) ⌝ }
+    requires { ⌜ at + length (32 ∷ numeral (lineNumber a)) ≤ length (now out) ⌝ }
+    ensures { λ r. ⌜ (r ≡ at + length (32 ∷ numeral (lineNumber a))) × (now (out .exit) ≡ placed at (32 ∷ numeral (lineNumber a)) (now (out .entry))) ⌝ }
 {
     put_field(out, at, b" ", permit::line::line_number(a) as u64)
 }

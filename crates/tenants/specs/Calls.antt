@@ -8,7 +8,7 @@ use Rattle.permit.specs.declared.line.Line.{Line}
 use Rattle.tenants.specs.declared.Held.{Held}
 use Rattle.tenants.specs.declared.Asked.{Asked}
 use Rattle.tenants.specs.declared.Asked.the-variants as asked
-use Rattle.tenants.specs.Rules.{Own, Change, nothing, numberOf, entering, withdrawing, settingDays, asking, issuing, checking}
+use Rattle.tenants.specs.Rules.{Own, Change, nothing, changeNumber, entering, withdrawing, settingDays, asking, issuing, checking}
 
 -- a call with all that is handed in; of an issued line's output, its length
 pub data Call : Type 0 where
@@ -35,8 +35,8 @@ askedNumber (asked.Refused n) = n
 abbrev pub answerNumber : Answer → ℕ
 answerNumber (number n) = n
 answerNumber (edition a) = askedNumber a
-answerNumber (written o) = output.numberOf (output.answerOf o)
-answerNumber (read l) = of-line.numberOf l
+answerNumber (written o) = output.writtenNumber (output.writtenOf o)
+answerNumber (read l) = of-line.lineNumber l
 
 -- what the call of tenant t does to what is its own
 abbrev pub changeOf : ℕ → Call → Own → Change
@@ -49,9 +49,9 @@ changeOf t (check hw today line) own = nothing
 
 -- what it answers
 abbrev pub answerOf : ℕ → Call → Own → Answer
-answerOf t (enter cell) own = number (numberOf (entering t cell own))
-answerOf t (withdraw name) own = number (numberOf (withdrawing t name own))
-answerOf t (setDays days) own = number (numberOf (settingDays t days own))
+answerOf t (enter cell) own = number (changeNumber (entering t cell own))
+answerOf t (withdraw name) own = number (changeNumber (withdrawing t name own))
+answerOf t (setDays days) own = number (changeNumber (settingDays t days own))
 answerOf t (askEdition name) own = edition (asking t name own)
 answerOf t (issue register name expiry level permit room) own = written (issuing t register name expiry level permit room own)
 answerOf t (check hw today line) own = read (checking t hw today line own)

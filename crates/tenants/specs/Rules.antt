@@ -38,12 +38,12 @@ pub data Change : Type 0 where
   refuses : ℕ → Change
 
 -- its number: 0 for done
-abbrev pub numberOf : Change → ℕ
-numberOf (enters cell) = 0
-numberOf (withdraws name) = 0
-numberOf (sets days) = 0
-numberOf nothing = 0
-numberOf (refuses n) = n
+abbrev pub changeNumber : Change → ℕ
+changeNumber (enters cell) = 0
+changeNumber (withdraws name) = 0
+changeNumber (sets days) = 0
+changeNumber nothing = 0
+changeNumber (refuses n) = n
 
 -- tenants are 0 to 15
 unfoldable pub isTenant : ℕ → Bool

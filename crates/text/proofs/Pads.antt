@@ -11,7 +11,7 @@ use lib.Arith.{digits-div, digits-mod, digits-lt}
 use lib.Dec.{eqb}
 use lib.ListN.{length, drop, replicate, length-replicate}
 use lib.Pow.{pow-add}
-use Rattle.text.specs.Numbers.{digits, bytesOf, numberOf}
+use Rattle.text.specs.Numbers.{digits, bytesOf, bytesNumber}
 use Rattle.text.specs.Characters.{allOf}
 use Rattle.text.specs.Padding.{padded, padOf, isPadded, unpadOf}
 use Rattle.text.specs.declared.numbers.Reading.the-variants.{Number, Wrong}
@@ -29,7 +29,7 @@ four-get-four a b c d = refl
 
 -- the number of the k bytes k that are added
 abbrev pub filling : ℕ → ℕ
-filling k = numberOf (replicate k k)
+filling k = bytesNumber (replicate k k)
 
 all-replicate : (d n : ℕ) → allOf (λ (e : ℕ). eqb e d) (replicate n d) ≡ true
 unfolding allOf
@@ -53,7 +53,7 @@ low-bytes k x h = same-tests _ _ there back
     there : allOf (λ (e : ℕ). eqb e k) (bytesOf k x) ≡ true → eqb (x % 256 ^ k) (filling k) ≡ true
     there all =
         eq-eqb (x % 256 ^ k) (filling k)
-        (sym (value-digits 256 k x (omega arith)) ∙ ap numberOf (rw digits-length at (all-same k (bytesOf k x) all)))
+        (sym (value-digits 256 k x (omega arith)) ∙ ap bytesNumber (rw digits-length at (all-same k (bytesOf k x) all)))
 
     bytes : x % 256 ^ k ≡ filling k → bytesOf k x ≡ replicate k k
     bytes e =

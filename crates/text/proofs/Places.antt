@@ -9,13 +9,13 @@ use borrow.Author.Tests.{le-leb, lt-leb, leb-true, leb-false}
 use lib.Dec.{leb}
 use lib.ListN.{length, getD, take, drop, length-append, length-drop}
 use lib.Seq.{drop-cons, drop-drop, take-add, take-at, drop-at, length-take-le}
-use Rattle.text.specs.Numbers.{value, Below, bytesOf, numberOf}
+use Rattle.text.specs.Numbers.{value, Below, bytesOf, bytesNumber}
 use Rattle.text.specs.Places.{numberAt}
 use Rattle.text.proofs.Digits.{digits-length, value-digits, value-below, digits-value, value-append, take-below, drop-below}
 use Rattle.text.proofs.Every.{either, same-tests}
 
 module _ (n : ℕ) (s : List ℕ) (at : ℕ) where
-  pub number-within : at + n ≤ length s → numberAt n s at ≡ numberOf (take n (drop at s))
+  pub number-within : at + n ≤ length s → numberAt n s at ≡ bytesNumber (take n (drop at s))
   unfolding numberAt
   number-within h = rw (le-leb (at + n) (length s) h)
 
@@ -36,7 +36,7 @@ module _ (n : ℕ) (s : List ℕ) (at : ℕ) (below : Below 256 s) where
       ap (bytesOf n) (number-within n s at h)
       ∙ rw (part-length n s at h) at (digits-value (take n (drop at s)) part-below)
 
-  inside : at + n ≤ length s → numberOf (take n (drop at s)) < 256 ^ n
+  inside : at + n ≤ length s → bytesNumber (take n (drop at s)) < 256 ^ n
   inside h = rw (part-length n s at h) at (value-below (take n (drop at s)) part-below)
 
   pub number-at-below : numberAt n s at < 256 ^ n
@@ -53,7 +53,7 @@ number-written n x front back =
 
 pub number-one : (s : List ℕ) (at : ℕ) → at + 1 ≤ length s → numberAt 1 s at ≡ getD s at 0
 unfolding value
-number-one s at h = number-within 1 s at h ∙ ap (λ (l : List ℕ). numberOf (take 1 l)) (drop-cons s at 0 (omega arith)) ∙ omega arith
+number-one s at h = number-within 1 s at h ∙ ap (λ (l : List ℕ). bytesNumber (take 1 l)) (drop-cons s at 0 (omega arith)) ∙ omega arith
 
 -- m bytes and n bytes after them
 pub number-join : (m n : ℕ) (s : List ℕ) (at : ℕ) → at + (m + n) ≤ length s

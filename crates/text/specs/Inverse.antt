@@ -4,7 +4,7 @@ use mathlib.Core.Bool.{true}
 use mathlib.Core.List.{List}
 use Prim.Native.Nat.{ℕ, _^_, _≤_, _<_}
 use lib.ListN.{length}
-use Rattle.text.specs.Numbers.{Below, bytesOf, numberOf}
+use Rattle.text.specs.Numbers.{Below, bytesOf, bytesNumber}
 use Rattle.text.specs.Characters.{isDigit, isUpperHex, allOf, hexText, hexNumber, decimalText, decimalNumber}
 use Rattle.text.specs.Padding.{padOf, unpadOf}
 use Rattle.text.specs.declared.numbers.Reading.the-variants.{Number}
@@ -26,10 +26,10 @@ DecimalTextOfNumber = (s : List ℕ) → allOf isDigit s ≡ true → decimalTex
 
 -- the same of big-endian bytes
 abbrev pub NumberOfBytes : Type 0
-NumberOfBytes = (n x : ℕ) → x < 256 ^ n → numberOf (bytesOf n x) ≡ x
+NumberOfBytes = (n x : ℕ) → x < 256 ^ n → bytesNumber (bytesOf n x) ≡ x
 
 abbrev pub BytesOfNumber : Type 0
-BytesOfNumber = (s : List ℕ) → Below 256 s → bytesOf (length s) (numberOf s) ≡ s
+BytesOfNumber = (s : List ℕ) → Below 256 s → bytesOf (length s) (bytesNumber s) ≡ s
 
 -- what was padded is found again
 abbrev pub UnpadAfterPad : Type 0

@@ -22,5 +22,5 @@ abbrev pub bytesOf : ℕ → ℕ → List ℕ
 bytesOf n x = digits 256 n x
 
 -- the number of these bytes
-abbrev pub numberOf : List ℕ → ℕ
-numberOf s = value 256 s
+abbrev pub bytesNumber : List ℕ → ℕ
+bytesNumber s = value 256 s

@@ -4,7 +4,7 @@ use mathlib.Core.List.{List, _++_}
 use Prim.Native.Nat.{ℕ, _-_, _/_, _^_}
 use lib.Dec.{eqb}
 use lib.ListN.{length, drop, replicate}
-use Rattle.text.specs.Numbers.{bytesOf, numberOf}
+use Rattle.text.specs.Numbers.{bytesOf, bytesNumber}
 use Rattle.text.specs.Characters.{allOf}
 use Rattle.text.specs.declared.numbers.Reading.{Reading}
 use Rattle.text.specs.declared.numbers.Reading.the-variants.{Number, Wrong}
@@ -15,7 +15,7 @@ padded s = s ++ replicate (8 - length s) (8 - length s)
 
 -- the block, a number of 8 bytes, of the number x of n bytes
 unfoldable pub padOf : ℕ → ℕ → ℕ
-padOf n x = numberOf (padded (bytesOf n x))
+padOf n x = bytesNumber (padded (bytesOf n x))
 
 -- the last 8 - n bytes of the block are the count of bytes added
 unfoldable pub isPadded : ℕ → ℕ → Bool

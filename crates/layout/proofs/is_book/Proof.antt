@@ -9,7 +9,7 @@ use Rattle.text.specs.Numbers.{Below}
 use lib.ListN.{length, drop, length-drop}
 use lib.Seq.{take-all}
 use Rattle.text.specs.Characters.{allOf}
-use Rattle.layout.specs.Layout.{usedLength, countOf}
+use Rattle.layout.specs.Layout.{usedLength, recordCount}
 use Rattle.layout.specs.Judging.{isZero, recordsTest}
 use Rattle.layout.proofs.Judged.{test-fails, fact-fails, last-decides}
 use Rattle.layout.proofs.is_book.Statement.{statement}
@@ -99,8 +99,8 @@ returns-7 c =
     let counted = settings .before .before .before .before in
     let book = counted .before .before .before .before .before .args .book .now in
     let used = usedLength (counted .count .result) in
-    let n : counted .count .result ≡ countOf book = counted .count .ensures in
-    let tested : c .is-zero .result ≡ allOf isZero (drop (usedLength (countOf book)) book) =
+    let n : counted .count .result ≡ recordCount book = counted .count .ensures in
+    let tested : c .is-zero .result ≡ allOf isZero (drop (usedLength (recordCount book)) book) =
     c .is-zero .ensures
     ∙ ap (allOf isZero) (take-all (length book - used) (drop used book) (simp length-drop (omega arith)))
     ∙ ap (λ (k : ℕ). allOf isZero (drop (usedLength k) book)) n in

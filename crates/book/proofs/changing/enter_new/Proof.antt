@@ -10,7 +10,7 @@ use Rattle.tenants.specs.declared.Held.{Held}
 use Rattle.tenants.specs.declared.Setting.{Setting}
 use Rattle.tenants.proofs.OwnCells.{inBook}
 use Rattle.tenants.proofs.Ranges.{held-fits}
-use Rattle.layout.specs.Layout.{settingAt, countOf}
+use Rattle.layout.specs.Layout.{settingAt, recordCount}
 use Rattle.layout.proofs.Frame.{book-frame}
 use Rattle.book.specs.OnBook.{ownIn}
 use Rattle.book.specs.Moves.{recordInserted}
@@ -33,7 +33,7 @@ module _ (k : tie.After-struct-known) where
   abbrev cell : Held
   cell = start .args .cell
 
-  counted : k .before .before .before .before .before .count .result ≡ countOf s
+  counted : k .before .before .before .before .before .count .result ≡ recordCount s
   counted = k .before .before .before .before .before .count .ensures
 
   holds : k .before .before .before .held-by .result ≡ length (ownIn s t .cells)

@@ -10,7 +10,7 @@ use borrow.Author.Tests.{not-true, not-false}
 use Rattle.permit.specs.Identifiers.{isCellName}
 use Rattle.tenants.specs.Together.{fullName}
 use Rattle.tenants.proofs.Ranges.{tenant-is, tenant-not}
-use Rattle.layout.specs.Layout.{countOf, bookOf, isBook}
+use Rattle.layout.specs.Layout.{recordCount, bookOf, isBook}
 use Rattle.layout.proofs.Frame.{book-frame}
 use Rattle.book.specs.declared.finding.Found.the-variants.{At}
 use Rattle.book.specs.Moves.{recordRemoved}
@@ -61,7 +61,7 @@ module _ (h : tie.After-i) where
   at-place : foundIn (fullName (t (second fitted)) (name fitted)) (bookOf (s (first fitted)) .records) ≡ At (h .i .given .0 .0)
   at-place = sym (h .before .before .find .ensures) ∙ h .i .given .1
 
-  at-within : h .i .given .0 .0 < countOf (s (first fitted))
+  at-within : h .i .given .0 .0 < recordCount (s (first fitted))
   at-within = found-within (s (first fitted)) (undamaged (first fitted)) (t (second fitted)) (name fitted) (h .i .given .0 .0) at-place
 
 is-book-requires : tie.Need-is-book-requires

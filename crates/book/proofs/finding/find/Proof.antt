@@ -8,7 +8,7 @@ use native.Mathlib.Omega.{arith}
 use borrow.Author.Needs.{needs}
 use lib.ListN.{length}
 use Rattle.tenants.specs.Together.{fullName}
-use Rattle.layout.specs.Layout.{countOf, isBook}
+use Rattle.layout.specs.Layout.{recordCount, isBook}
 use Rattle.layout.proofs.Frame.{book-frame}
 use Rattle.book.proofs.Searching.{search-at, search-other, search-end}
 use Rattle.book.proofs.finding.find.Statement.{statement}
@@ -30,7 +30,7 @@ module _ (c : tie.After-count) where
   undamaged : isBook book ≡ true
   undamaged = c .before .before .before .pre
 
-  bound : countOf book ≤ 512
+  bound : recordCount book ≤ 512
   bound = book-frame book undamaged .few
 
   size : length book ≡ 12389

@@ -6,7 +6,7 @@ use native.Mathlib.Omega.{arith}
 use borrow.Author.Needs.{needs}
 use lib.ListN.{length}
 use Rattle.tenants.specs.Together.{fullName}
-use Rattle.layout.specs.Layout.{countOf, bookOf}
+use Rattle.layout.specs.Layout.{recordCount, bookOf}
 use Rattle.layout.proofs.Frame.{book-frame}
 use Rattle.book.specs.Finding.{placeOf}
 use Rattle.book.proofs.Searching.{place-most, turn-up, turn-down}
@@ -15,7 +15,7 @@ use Rattle.book.proofs.finding.place_of.Tie as tie
 
 abbrev Inv-loop : tie.InvT-loop
 Inv-loop book tenant name low₀ high₀ low high =
-    (length book ≡ 12389) × (high ≤ 512) × (high ≤ countOf book)
+    (length book ≡ 12389) × (high ≤ 512) × (high ≤ recordCount book)
     × (low ≤ placeOf (fullName tenant name) (bookOf book .records)) × (placeOf (fullName tenant name) (bookOf book .records) ≤ high)
 
 abbrev μ-loop : tie.MeasureT-loop

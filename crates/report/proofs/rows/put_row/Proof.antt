@@ -4,7 +4,7 @@ use mathlib.Core.List.{List, _∷_, _++_}
 use Prim.Native.Nat.{ℕ}
 use borrow.Author.Needs.{needs}
 use Rattle.text.specs.Texts.{numeral}
-use Rattle.permit.specs.Line.{numberOf}
+use Rattle.permit.specs.Line.{lineNumber}
 use Rattle.permit.specs.declared.line.Line.{Line}
 use Rattle.report.specs.LookThrough.{rowOf}
 use Rattle.report.specs.Turns.{rowEnd}
@@ -13,7 +13,7 @@ use Rattle.report.proofs.rows.put_row.Statement.{statement}
 use Rattle.report.proofs.rows.put_row.Tie as tie
 
 abbrev number : Line → List ℕ
-number a = 32 ∷ numeral (numberOf a)
+number a = 32 ∷ numeral (lineNumber a)
 
 put-numeral-requires : tie.Need-put-numeral-requires
 unfolding rowOf rowEnd

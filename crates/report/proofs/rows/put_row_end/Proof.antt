@@ -6,7 +6,7 @@ use Prim.Native.Nat.{ℕ, _+_}
 use native.Mathlib.Omega.{arith}
 use borrow.Author.Needs.{needs}
 use Rattle.text.specs.Texts.{placed}
-use Rattle.report.specs.LookThrough.{nameOf}
+use Rattle.report.specs.LookThrough.{nameShown}
 use Rattle.report.specs.Turns.{rowEnd}
 use Rattle.report.proofs.Room.{name-length, row-end-length}
 use Rattle.report.proofs.Putting.{three-put}
@@ -61,7 +61,7 @@ returns c =
     let named = one .before .before .before in
     let start = named .before .before in
     let at = start .args .at in
-    let name = nameOf (start .args .a) in
+    let name = nameShown (start .args .a) in
     three-put at (32 ∷ []) name (10 ∷ []) (start .args .out .now) (start .pre)
     (at + 1) (one .put-text .last .0) (refl, one .put-text .ensures)
     (at + 9) (two .put-text2 .last .0) (
