@@ -1,17 +1,18 @@
 -- What the rules answer to asking, issuing and checking, case by case, in the order of the refusals.
 -- Assumes nothing.
-use mathlib.Core.Path.{_≡_}
+use mathlib.Core.Path.{_≡_, refl}
 use mathlib.Core.Bool.{true, false, _&&_}
 use mathlib.Core.List.{List}
 use mathlib.Core.Option.{Option, none, some}
 use Prim.Native.Nat.{ℕ}
 use lib.Dec.{leb}
+use Rattle.text.proofs.Every.{either}
 use Rattle.dates.specs.Calendar.{isDate}
-use Rattle.permit.specs.Identifiers.{isCellName}
+use Rattle.permit.specs.Identifiers.{isHwId, isCellName}
 use Rattle.permit.specs.Register.{isRegister}
 use Rattle.permit.specs.UserPermit.{readPermit}
 use Rattle.permit.specs.CellPermit.{writtenLine}
-use Rattle.permit.specs.Line.{readLine}
+use Rattle.permit.specs.Line.{givenNumber, readLine}
 use Rattle.permit.specs.Output.{Output, refusal}
 use Rattle.permit.specs.declared.Written.{Written}
 use Rattle.permit.specs.declared.line.Line.the-variants as of-line
@@ -22,8 +23,9 @@ use Rattle.tenants.specs.declared.Held.{Held}
 use Rattle.tenants.specs.declared.Setting.{Setting}
 use Rattle.tenants.specs.declared.Asked.the-variants as asked
 use Rattle.tenants.specs.Cells.{cellOf}
-use Rattle.tenants.specs.Rules.{Own, isTenant, asking, lineCell, lineFor, issuing, checking}
+use Rattle.tenants.specs.Rules.{Own, isTenant, isDays, asking, lineCell, lineFor, issuing, checking}
 use Rattle.layout.specs.Layout.{isBook}
+use Rattle.book.specs.Issuing.{lineWritten}
 use Rattle.book.specs.OnBook.{ownIn, editionIn, issuedFrom, checkedBy}
 
 -- what one output answers and leaves, an equal one does
@@ -95,20 +97,20 @@ module _ (t : ℕ) (register : List ℕ) (name expiry level : ℕ) (permit : Lis
           issuing-unfit unfit = rw (registered, tenant, long, unfit)
 
           pub issuing-line : (isCellName name && isDate expiry && leb level 1) ≡ true
-              → issues ≡ lineFor (readPermit register permit) (cellOf name (own .cells)) (own .setting) expiry level room
+              → issues ≡ lineFor (readPermit register permit) (cellOf name (own .cells)) (own .setting) expiry level
           unfolding issuing
           issuing-line fit = rw (registered, tenant, long, fit)
 
 module _ (expiry level room : ℕ) (cell : Option Held) (setting : Setting) (ship : UserPermit) where
-  pub line-refused : (n : ℕ) → ship ≡ user-permit.Refused n → lineFor ship cell setting expiry level room ≡ refusal n
+  pub line-refused : (n : ℕ) → ship ≡ user-permit.Refused n → lineWritten ship cell setting expiry level room ≡ refusal n
   line-refused n e = rw e
 
   module _ (hw m : ℕ) (e : ship ≡ user-permit.Ship hw m) where
-    pub line-absent : cell ≡ none → lineFor ship cell setting expiry level room ≡ refusal 104
+    pub line-absent : cell ≡ none → lineWritten ship cell setting expiry level room ≡ refusal 104
     line-absent absent = rw (e, absent)
 
     pub line-held : (it : Held) (own : Setting) → cell ≡ some it → setting ≡ own
-        → lineFor ship cell setting expiry level room ≡ writtenLine hw (lineCell own it expiry level) room
+        → lineWritten ship cell setting expiry level room ≡ writtenLine hw (lineCell own it expiry level) room
     line-held it own held is = rw (e, held, is)
 
 module _ (t hw today : ℕ) (line : List ℕ) where
@@ -126,7 +128,12 @@ module _ (t hw today : ℕ) (line : List ℕ) where
     unfolding checking
     checking-outside outside = rw outside
 
-    pub checking-line : (setting : Setting) → isTenant t ≡ true → own .setting ≡ setting
+    -- with warning days the line is read as a call by itself reads it
+    pub checking-line : (setting : Setting) → isTenant t ≡ true → own .setting ≡ setting → isDays (setting .days) ≡ true
         → checking t hw today line own ≡ readLine hw today (setting .days) line
-    unfolding checking
-    checking-line setting tenant is = rw (tenant, is)
+    unfolding checking readLine givenNumber isDays
+    checking-line setting tenant is days =
+        rw (tenant, is, days)
+        (either (isHwId hw)
+        (λ ship. rw ship (either (isDate today) (λ date. rw date refl) (λ no. rw no refl)))
+        (λ no. rw no refl))

@@ -14,7 +14,7 @@ use Rattle.tenants.specs.declared.Setting.{Setting}
 use Rattle.tenants.specs.Cells.{entered, withdrawn}
 use Rattle.tenants.specs.Alone.{withDays}
 use Rattle.tenants.specs.Rules.{enters, withdraws, sets}
-use Rattle.tenants.specs.Together.{fullName, named, noSetting, changed}
+use Rattle.tenants.specs.Together.{inBook, BookRecord, fullName, named, noSetting, changed}
 use Rattle.tenants.proofs.Ordered.{entered-first, entered-same, entered-behind, withdrawn-same, withdrawn-other}
 use Rattle.tenants.proofs.Goodness.{Good}
 use Rattle.layout.specs.Layout.{recordBytes, bookBytes, settingPlace, recordPlace, recordCount, bookOf, isBook}
@@ -25,16 +25,16 @@ use Rattle.book.proofs.Found.{Below, Here, Gone}
 use Rattle.book.proofs.Rewritten.{record-replaced, record-inserted, record-removed, days-replaced}
 
 -- records of lower names are passed
-entered-past : (c : Held) (front l : List Held) → Below (c .name) front → entered c (front ++ l) ≡ front ++ entered c l
+entered-past : (c : BookRecord) (front l : List BookRecord) → Below (c .name) front → entered c (front ++ l) ≡ front ++ entered c l
 entered-past c [] l below = refl
 entered-past c (r ∷ front) l below =
-    entered-behind c r (front ++ l) (below .0) ∙ ap (λ (k : List Held). r ∷ k) (entered-past c front l (below .1))
+    entered-behind c r (front ++ l) (below .0) ∙ ap (λ (k : List BookRecord). r ∷ k) (entered-past c front l (below .1))
 
-withdrawn-past : (full : ℕ) (front l : List Held) → Below full front → withdrawn full (front ++ l) ≡ front ++ withdrawn full l
+withdrawn-past : (full : ℕ) (front l : List BookRecord) → Below full front → withdrawn full (front ++ l) ≡ front ++ withdrawn full l
 withdrawn-past full [] l below = refl
 withdrawn-past full (r ∷ front) l below =
     let low : r .name < full = below .0 in
-    withdrawn-other full r (front ++ l) (λ e. omega arith) ∙ ap (λ (k : List Held). r ∷ k) (withdrawn-past full front l (below .1))
+    withdrawn-other full r (front ++ l) (λ e. omega arith) ∙ ap (λ (k : List BookRecord). r ∷ k) (withdrawn-past full front l (below .1))
 
 module _ (s : List ℕ) (undamaged : isBook s ≡ true) where
   good : Good (bookOf s)
@@ -47,8 +47,8 @@ module _ (s : List ℕ) (undamaged : isBook s ≡ true) where
   with records = bookBytes (record { settings = bookOf s .settings; records = records })
 
   module _ (t : ℕ) (cell : Held) (i : ℕ) where
-    abbrev new : Held
-    new = named (fullName t (cell .name)) cell
+    abbrev new : BookRecord
+    new = inBook t cell
 
     pub replaces : Here (fullName t (cell .name)) (bookOf s .records) i
         → placed (recordPlace i) (recordBytes new) s ≡ bookBytes (changed t (enters cell) (bookOf s))
@@ -56,10 +56,10 @@ module _ (s : List ℕ) (undamaged : isBook s ≡ true) where
         ap₂ (λ (n : ℕ) (l : List ℕ). placed (recordPlace n) (recordBytes new) l) (sym (h .place)) (says ∙ ap with (h .whole))
         ∙ record-replaced (bookOf s .settings) (good .sixteen) (h .front) new (h .back) (h .it)
         ∙ sym
-        (ap (λ (l : List Held). with (entered new l)) (h .whole)
+        (ap (λ (l : List BookRecord). with (entered new l)) (h .whole)
         ∙ ap with
         (entered-past new (h .front) (h .it ∷ h .back) (h .below)
-        ∙ ap (λ (l : List Held). h .front ++ l) (entered-same new (h .it) (h .back) (sym (h .name)))))
+        ∙ ap (λ (l : List BookRecord). h .front ++ l) (entered-same new (h .it) (h .back) (sym (h .name)))))
 
     pub inserts : Gone (fullName t (cell .name)) (bookOf s .records) i → recordCount s < 512
         → recordInserted (recordCount s) i new s ≡ bookBytes (changed t (enters cell) (bookOf s))
@@ -68,9 +68,9 @@ module _ (s : List ℕ) (undamaged : isBook s ≡ true) where
         ∙ record-inserted (bookOf s .settings) (good .sixteen) (h .front) new (h .back) (recordCount s)
         (ap length (sym (h .whole)) ∙ book-count s) room
         ∙ sym
-        (ap (λ (l : List Held). with (entered new l)) (h .whole)
+        (ap (λ (l : List BookRecord). with (entered new l)) (h .whole)
         ∙ ap with
-        (entered-past new (h .front) (h .back) (h .below) ∙ ap (λ (l : List Held). h .front ++ l) (entered-first new (h .back) (h .above))))
+        (entered-past new (h .front) (h .back) (h .below) ∙ ap (λ (l : List BookRecord). h .front ++ l) (entered-first new (h .back) (h .above))))
 
   pub removes : (t name i : ℕ) → Here (fullName t name) (bookOf s .records) i
       → recordRemoved (recordCount s) i s ≡ bookBytes (changed t (withdraws name) (bookOf s))
@@ -81,10 +81,10 @@ module _ (s : List ℕ) (undamaged : isBook s ≡ true) where
       ∙ ap₂ (recordRemoved (suc n)) (sym (h .place)) (says ∙ ap with (h .whole))
       ∙ record-removed (bookOf s .settings) (good .sixteen) (h .front) (h .it) (h .back) n refl (omega (arith, good .count, book-count s))
       ∙ sym
-      (ap (λ (l : List Held). with (withdrawn (fullName t name) l)) (h .whole)
+      (ap (λ (l : List BookRecord). with (withdrawn (fullName t name) l)) (h .whole)
       ∙ ap with
       (withdrawn-past (fullName t name) (h .front) (h .it ∷ h .back) (h .below)
-      ∙ ap (λ (l : List Held). h .front ++ l) (withdrawn-same (fullName t name) (h .it) (h .back) (sym (h .name)))))
+      ∙ ap (λ (l : List BookRecord). h .front ++ l) (withdrawn-same (fullName t name) (h .it) (h .back) (sym (h .name)))))
 
   pub sets-days : (t days : ℕ) → t < 16 → placed (settingPlace t + 2) (bytesOf 1 days) s ≡ bookBytes (changed t (sets days) (bookOf s))
   sets-days t days h =

@@ -11,8 +11,7 @@ use Rattle.permit.specs.Identifiers.{isCellName}
 use Rattle.tenants.specs.declared.Held.{Held}
 use Rattle.tenants.specs.declared.Setting.{Setting}
 use Rattle.tenants.specs.Rules.{enters, withdraws, sets, isDays, isHeld}
-use Rattle.tenants.specs.Together.{fullName, ownOf}
-use Rattle.tenants.proofs.OwnCells.{inBook}
+use Rattle.tenants.specs.Together.{inBook, fullName, ownOf}
 use Rattle.tenants.proofs.Ranges.{tenant-is, days-below, name-below, held-below}
 use Rattle.tenants.proofs.Room.{has-place}
 use Rattle.layout.specs.Layout.{recordBytes, settingAt, settingPlace, recordPlace, recordCount, bookOf, isBook}

@@ -8,7 +8,7 @@ use native.Mathlib.Omega.{arith}
 use borrow.Author.Tests.{lt-ltb, le-ltb}
 use lib.ListN.{length}
 use Rattle.text.proofs.Every.{either}
-use Rattle.tenants.specs.declared.Held.{Held}
+use Rattle.tenants.specs.Together.{BookRecord}
 use Rattle.tenants.specs.Cells.{cellOf}
 use Rattle.tenants.specs.Rules.{isSome}
 use Rattle.tenants.proofs.Ordered.{Above, Sorted, Stands, before, same, behind, stands, above-lower, found-here, found-later, absent-above}
@@ -17,15 +17,15 @@ use Rattle.book.specs.declared.finding.Found.the-variants.{At, Absent}
 use Rattle.book.specs.Finding.{placeOf, foundIn}
 
 -- each name is below this one
-abbrev pub Below : ℕ → List Held → Type 0
+abbrev pub Below : ℕ → List BookRecord → Type 0
 Below full [] = Unit {0}
 Below full (r ∷ records) = (r .name < full) × Below full records
 
 -- the records around record i, which has the full name
-pub record Here (full : ℕ) (records : List Held) (i : ℕ) : Type 0 where
-  pub front : List Held
-  pub it : Held
-  pub back : List Held
+pub record Here (full : ℕ) (records : List BookRecord) (i : ℕ) : Type 0 where
+  pub front : List BookRecord
+  pub it : BookRecord
+  pub back : List BookRecord
   pub whole : records ≡ front ++ (it ∷ back)
   pub place : length front ≡ i
   pub name : it .name ≡ full
@@ -34,16 +34,16 @@ pub record Here (full : ℕ) (records : List Held) (i : ℕ) : Type 0 where
   pub held : cellOf full records ≡ some it
 
 -- the records before place i, where the full name would go, and those from there on
-pub record Gone (full : ℕ) (records : List Held) (i : ℕ) : Type 0 where
-  pub front : List Held
-  pub back : List Held
+pub record Gone (full : ℕ) (records : List BookRecord) (i : ℕ) : Type 0 where
+  pub front : List BookRecord
+  pub back : List BookRecord
   pub whole : records ≡ front ++ back
   pub place : length front ≡ i
   pub below : Below full front
   pub above : Above full back
   pub absent : cellOf full records ≡ none
 
-module _ (full : ℕ) (r : Held) (records : List Held) where
+module _ (full : ℕ) (r : BookRecord) (records : List BookRecord) where
   pub place-here : full ≤ r .name → placeOf full (r ∷ records) ≡ 0
   unfolding placeOf
   place-here high = rw (le-ltb (r .name) full high)
@@ -58,7 +58,7 @@ module _ (full : ℕ) (r : Held) (records : List Held) where
         front = r ∷ h .front;
         it = h .it;
         back = h .back;
-        whole = ap (λ (l : List Held). r ∷ l) (h .whole);
+        whole = ap (λ (l : List BookRecord). r ∷ l) (h .whole);
         place = ap suc (h .place);
         name = h .name;
         below = (low, h .below);
@@ -71,7 +71,7 @@ module _ (full : ℕ) (r : Held) (records : List Held) where
       record {
         front = r ∷ h .front;
         back = h .back;
-        whole = ap (λ (l : List Held). r ∷ l) (h .whole);
+        whole = ap (λ (l : List BookRecord). r ∷ l) (h .whole);
         place = ap suc (h .place);
         below = (low, h .below);
         above = h .above;
@@ -79,7 +79,7 @@ module _ (full : ℕ) (r : Held) (records : List Held) where
       }
 
 -- the answer's own split
-abbrev Told : ℕ → List Held → Found → Type 0
+abbrev Told : ℕ → List BookRecord → Found → Type 0
 Told full records (At i) = Here full records i
 Told full records (Absent i) = Gone full records i
 
@@ -89,11 +89,11 @@ later (At i) = At (suc i)
 later (Absent i) = Absent (suc i)
 
 module _ (full : ℕ) where
-  told-later : (r : Held) (records : List Held) (f : Found) → r .name < full → Told full records f → Told full (r ∷ records) (later f)
+  told-later : (r : BookRecord) (records : List BookRecord) (f : Found) → r .name < full → Told full records f → Told full (r ∷ records) (later f)
   told-later r records (At i) low h = here-later full r records i low h
   told-later r records (Absent i) low h = gone-later full r records i low h
 
-  module _ (r : Held) (records : List Held) where
+  module _ (r : BookRecord) (records : List BookRecord) where
     found-before : full < r .name → Above full records → foundIn full (r ∷ records) ≡ Absent 0
     unfolding foundIn
     found-before m above = rw (absent-above full (r ∷ records) (m, above), place-here full r records (omega arith))
@@ -108,7 +108,7 @@ module _ (full : ℕ) where
         rw (found-later full r records (λ e. omega arith), place-later full r records m)
         (either (isSome (cellOf full records)) (λ held. rw held refl) (λ absent. rw absent refl))
 
-  told : (records : List Held) → Sorted records → Told full records (foundIn full records)
+  told : (records : List BookRecord) → Sorted records → Told full records (foundIn full records)
   unfolding foundIn cellOf placeOf
   told [] sorted = record { front = []; back = []; whole = refl; place = refl; below = tt; above = tt; absent = refl }
   told (r ∷ records) sorted = go (stands full (r .name)) (told records (sorted .1))
@@ -141,7 +141,7 @@ module _ (full : ℕ) where
           })
       go (behind m) ih = rw (found-behind r records m) (told-later r records (foundIn full records) m ih)
 
-  module _ (records : List Held) (i : ℕ) (sorted : Sorted records) where
+  module _ (records : List BookRecord) (i : ℕ) (sorted : Sorted records) where
     -- what `At i` tells
     pub found-at : foundIn full records ≡ At i → Here full records i
     found-at e = rw e at (told records sorted)

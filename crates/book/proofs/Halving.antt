@@ -10,24 +10,23 @@ use borrow.Author.Tests.{ltb-true, ltb-false, lt-ltb, le-ltb, eq-eqb, ne-eqb}
 use lib.Dec.{ltb, eqb}
 use lib.ListN.{length, getD}
 use Rattle.text.proofs.Every.{either, same-tests}
-use Rattle.tenants.specs.declared.Held.{Held}
 use Rattle.tenants.specs.Cells.{cellOf}
 use Rattle.tenants.specs.Rules.{isSome}
-use Rattle.tenants.specs.Together.{fullName, tenantOf, cellsOf}
+use Rattle.tenants.specs.Together.{BookRecord, fullName, tenantOf, cellsOf}
 use Rattle.tenants.proofs.Ordered.{Above, Sorted, Stands, before, same, behind, stands, above-lower, found-here, found-later, absent-above}
 use Rattle.tenants.proofs.OwnCells.{cells-mine, cells-not}
 use Rattle.book.specs.declared.finding.Found.the-variants.{At, Absent}
 use Rattle.book.specs.Finding.{placeOf, foundIn}
 use Rattle.book.proofs.Found.{place-here, place-later}
 
-above-at : (k : ℕ) (records : List Held) (d : Held) (i : ℕ) → Above k records → i < length records → k < getD records i d .name
+above-at : (k : ℕ) (records : List BookRecord) (d : BookRecord) (i : ℕ) → Above k records → i < length records → k < getD records i d .name
 above-at k [] d i above h = absurd (not-suc-le-zero h)
 above-at k (r ∷ records) d zero above h = above .0
 above-at k (r ∷ records) d (suc i) above h = above-at k records d i (above .1) (le-of-suc-le-suc h)
 
-module _ (full : ℕ) (d : Held) where
+module _ (full : ℕ) (d : BookRecord) where
   -- where record i comes before the name, the place is after it
-  pub place-after : (records : List Held) (i : ℕ) → Sorted records → i < length records → getD records i d .name < full → i < placeOf full records
+  pub place-after : (records : List BookRecord) (i : ℕ) → Sorted records → i < length records → getD records i d .name < full → i < placeOf full records
   place-after [] i sorted h low = absurd (not-suc-le-zero h)
   place-after (r ∷ records) zero sorted h low = rw (place-later full r records low) (omega arith)
   place-after (r ∷ records) (suc i) sorted h low =
@@ -36,7 +35,7 @@ module _ (full : ℕ) (d : Held) where
       rw (place-later full r records (omega arith)) (suc-le-suc (place-after records i (sorted .1) inside low))
 
   -- and where it does not, the place is not after it
-  pub place-up-to : (records : List Held) (i : ℕ) → i < length records → full ≤ getD records i d .name → placeOf full records ≤ i
+  pub place-up-to : (records : List BookRecord) (i : ℕ) → i < length records → full ≤ getD records i d .name → placeOf full records ≤ i
   place-up-to [] i h high = absurd (not-suc-le-zero h)
   place-up-to (r ∷ records) zero h high = rw (place-here full r records high) (omega arith)
   place-up-to (r ∷ records) (suc i) h high =
@@ -45,7 +44,7 @@ module _ (full : ℕ) (d : Held) where
       (λ up. rw (place-here full r records (ltb-false _ _ up)) (omega arith))
 
   -- the name is held where the record at its place has it
-  held-there : (records : List Held) → Sorted records
+  held-there : (records : List BookRecord) → Sorted records
       → isSome (cellOf full records) ≡ (ltb (placeOf full records) (length records) && eqb (getD records (placeOf full records) d .name) full)
   unfolding placeOf cellOf
   held-there [] sorted = refl
@@ -78,7 +77,7 @@ module _ (full : ℕ) (d : Held) where
               (λ e. lt-ltb p n (le-of-suc-le-suc (ltb-true _ _ e)))
               (λ e. lt-ltb (suc p) (suc n) (suc-le-suc (ltb-true _ _ e)))
 
-pub place-within : (full : ℕ) (records : List Held) → placeOf full records ≤ length records
+pub place-within : (full : ℕ) (records : List BookRecord) → placeOf full records ≤ length records
 unfolding placeOf
 place-within full [] = omega arith
 place-within full (r ∷ records) =
@@ -87,7 +86,7 @@ place-within full (r ∷ records) =
     (λ up. rw up (omega arith))
 
 -- the search's answers, by what stands at the name's place
-module _ (full : ℕ) (records : List Held) (d : Held) (sorted : Sorted records) where
+module _ (full : ℕ) (records : List BookRecord) (d : BookRecord) (sorted : Sorted records) where
   pub answer-at : placeOf full records < length records → getD records (placeOf full records) d .name ≡ full
       → foundIn full records ≡ At (placeOf full records)
   unfolding foundIn
@@ -112,12 +111,12 @@ module _ (t : ℕ) where
   abbrev next : ℕ
   next = fullName (t + 1) 0
 
-  none-below : (full k : ℕ) (records : List Held) → full ≤ k → Above k records → placeOf full records ≡ 0
+  none-below : (full k : ℕ) (records : List BookRecord) → full ≤ k → Above k records → placeOf full records ≡ 0
   unfolding placeOf
   none-below full k [] h above = refl
   none-below full k (r ∷ records) h above = let a : k < r .name = above .0 in place-here full r records (omega arith)
 
-  pub cells-between : (records : List Held) → Sorted records → length (cellsOf t records) + placeOf first records ≡ placeOf next records
+  pub cells-between : (records : List BookRecord) → Sorted records → length (cellsOf t records) + placeOf first records ≡ placeOf next records
   unfolding placeOf cellsOf
   cells-between [] sorted = refl
   cells-between (r ∷ records) sorted = go (stands (tenantOf r) t) (cells-between records (sorted .1))

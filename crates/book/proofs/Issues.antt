@@ -1,61 +1,66 @@
 -- What a tenant issues reads back: the line of the held cell, which the tenant's own check answers with the notice of its own days.
 -- Assumes nothing.
-use mathlib.Core.Path.{_≡_, sym, ap, _∙_}
+use mathlib.Core.Path.{_≡_, refl, sym, ap, _∙_}
 use mathlib.Core.Bool.{true}
-use Prim.Native.Nat.{ℕ, _^_, _≤_}
-use borrow.Author.Tests.{le-leb, lt-ltb}
-use lib.ListN.{getD}
-use Rattle.text.proofs.Every.{and-first, and-second}
+use mathlib.Core.List.{List, _++_}
+use mathlib.Core.Option.{some}
+use Prim.Native.Nat.{ℕ, _≤_}
+use borrow.Author.Tests.{le-leb}
 use Rattle.dates.specs.Calendar.{isDate}
-use Rattle.permit.specs.Identifiers.{isHwId, isCellName, isServerId}
-use Rattle.permit.specs.CellPermit.{isCell}
-use Rattle.permit.specs.Line.{givenNumber}
+use Rattle.permit.specs.Identifiers.{isHwId, isCellName}
+use Rattle.permit.specs.Register.{isRegister}
+use Rattle.permit.specs.UserPermit.{readPermit}
+use Rattle.permit.specs.CellPermit.{shipWords, lineOf, lineEnd}
+use Rattle.permit.specs.Line.{givenNumber, readWith, readLine}
+use Rattle.permit.specs.Output.{text}
+use Rattle.permit.specs.declared.user_permit.UserPermit.the-variants.{Ship}
 use Rattle.permit.proofs.ShipRead.{ship-form}
 use Rattle.permit.proofs.LineBack.{line-reads-back}
 use Rattle.tenants.specs.declared.Held.{Held}
 use Rattle.tenants.specs.declared.Setting.{Setting}
-use Rattle.tenants.specs.Rules.{isDays, lineCell, issuing, checking}
-use Rattle.tenants.specs.Together.{noSetting, ownOf, isSetting}
+use Rattle.tenants.specs.Cells.{cellOf}
+use Rattle.tenants.specs.Rules.{isTenant, isDays, lineCell, issuing, checking}
 use Rattle.tenants.proofs.Ordered.{found-name}
-use Rattle.tenants.proofs.Ranges.{Fit, tenant-below, held-fits}
-use Rattle.tenants.proofs.FoundHeld.{found-held}
-use Rattle.layout.specs.Layout.{bookOf}
+use Rattle.layout.specs.Layout.{isBook}
 use Rattle.book.specs.OnBook.{ownIn, issuedFrom, checkedBy}
 use Rattle.book.specs.Kept.{IssuedReadsBack}
-use Rattle.book.proofs.Undamaged.{good}
+use Rattle.book.proofs.LineWritten.{set-days, fits, cell-good}
 
--- a held cell and a setting give a line all that it is written from
-cell-good : (setting : Setting) (cell : Held) (expiry level : ℕ) → isSetting setting ≡ true → Fit cell → isDate expiry ≡ true → level ≤ 1
-    → isCell (lineCell setting cell expiry level) ≡ true
-unfolding isCell isSetting
-cell-good setting cell expiry level good fit date low =
-    rw (
-      fit .name,
-      date,
-      lt-ltb (cell .key1) (256 ^ 5) (fit .key1),
-      lt-ltb (cell .key2) (256 ^ 5) (fit .key2),
-      le-leb level 1 low,
-      le-leb 1 (cell .edition) (fit .low),
-      le-leb (cell .edition) 999 (fit .high),
-      and-second (isDays (setting .days)) (isServerId (setting .server)) good,
-    )
+module _ (hw today days : ℕ) (form : isHwId hw ≡ true) (date : isDate today ≡ true) (right : isDays days ≡ true) where
+  given-zero : givenNumber hw today days ≡ 0
+  unfolding givenNumber isDays
+  given-zero = rw (form, date, right)
 
-given-zero : (hw today : ℕ) (setting : Setting) → isSetting setting ≡ true → isHwId hw ≡ true → isDate today ≡ true
-    → givenNumber hw today (setting .days) ≡ 0
-unfolding givenNumber isSetting isDays
-given-zero hw today setting good form date =
-    rw (form, date, and-first (isDays (setting .days)) (isServerId (setting .server)) good)
+  -- what is given is good, so the line is read
+  read-so : (line : List ℕ) → readLine hw today days line ≡ readWith (shipWords hw) today days line
+  unfolding readLine
+  read-so line = rw given-zero
+
+-- the line that is issued of a held cell
+module _ (s register permit : List ℕ) (t name expiry level room hw m : ℕ) (cell : Held) (undamaged : isBook s ≡ true) (tenant : isTenant t ≡ true)
+    (registered : isRegister register ≡ true) (ship : readPermit register permit ≡ Ship hw m) (found : cellOf name (ownIn s t .cells) ≡ some cell)
+    (date : isDate expiry ≡ true) (low : level ≤ 1) (roomy : 76 ≤ room) where
+  same-name : cell .name ≡ name
+  same-name = found-name name (ownIn s t .cells) cell found
+
+  pub issued-line : issuedFrom s register t name expiry level permit room
+      ≡ text (lineOf (shipWords hw) (lineCell (ownIn s t .setting) cell expiry level) ++ lineEnd)
+  unfolding issuedFrom issuing
+  issued-line =
+      let is-name : isCellName name ≡ true = ap isCellName (sym same-name) ∙ fits s t undamaged tenant name cell found .name in
+      rw (undamaged, registered, tenant, le-leb 76 room roomy, is-name, date, le-leb level 1 low, ship, found) refl
 
 pub issued-reads-back : IssuedReadsBack
-unfolding issuedFrom checkedBy issuing checking ownOf
-issued-reads-back s register permit t name expiry level room hw m today cell undamaged tenant registered ship found date low fits now =
-    let setting : Setting = getD (bookOf s .settings) t noSetting in
-    let set : isSetting setting ≡ true = good s undamaged .each-setting t (tenant-below t tenant) in
-    let fit : Fit cell = held-fits cell (found-held t name cell (bookOf s .records) (good s undamaged .each-record) found) in
-    let is-name : isCellName name ≡ true = ap isCellName (sym (found-name name (ownIn s t .cells) cell found)) ∙ fit .name in
+unfolding checkedBy checking
+issued-reads-back s register permit t name expiry level room hw m today cell undamaged tenant registered ship found date low roomy now =
+    let setting : Setting = ownIn s t .setting in
+    let days : isDays (setting .days) ≡ true = set-days s t undamaged tenant in
+    let form : isHwId hw ≡ true = ship-form hw m register permit ship in
     let back = line-reads-back hw today (setting .days) room (lineCell setting cell expiry level)
-    (cell-good setting cell expiry level set fit date low)
-    (given-zero hw today setting set (ship-form hw m register permit ship) now) fits in (
-      rw (undamaged, registered, tenant, le-leb 76 room fits, is-name, date, le-leb level 1 low, ship, found) (back .0),
-      rw (undamaged, tenant) (back .1 .1),
+    (cell-good s t undamaged tenant expiry level date low name cell found) (given-zero hw today (setting .days) form now days) roomy in (
+      same-name s register permit t name expiry level room hw m cell undamaged tenant registered ship found date low roomy,
+      (
+        issued-line s register permit t name expiry level room hw m cell undamaged tenant registered ship found date low roomy,
+        rw (undamaged, tenant, form, now) (sym (read-so hw today (setting .days) form now days _) ∙ back .1 .1),
+      ),
     )

@@ -17,6 +17,8 @@ pub mod Given
 pub mod FirstBook
 pub mod Opens
 pub mod FirstCell
+pub mod LineWritten
 pub mod Issues
+pub mod DoneCalls
 pub mod OwnFound
 pub mod AnswerRules

@@ -8,10 +8,9 @@ use Prim.Native.Nat.{ℕ, _≤_, _<_}
 use native.Mathlib.Omega.{arith}
 use lib.ListN.{length, getD, length-append}
 use lib.Seq.{getD-at}
-use Rattle.tenants.specs.declared.Held.{Held}
 use Rattle.tenants.specs.Cells.{cellOf}
-use Rattle.tenants.specs.Together.{names, fullName, nameOf, named, noSetting, ownOf}
-use Rattle.tenants.proofs.OwnCells.{own, cell-found, cell-absent}
+use Rattle.tenants.specs.Together.{cellIn, BookRecord, names, fullName, nameOf, named, noSetting, ownOf}
+use Rattle.tenants.proofs.OwnCells.{cell-found, cell-absent}
 use Rattle.layout.specs.Layout.{settingAt, recordAt, recordCount, bookOf, isBook}
 use Rattle.layout.proofs.Frame.{book-frame}
 use Rattle.layout.proofs.Indexed.{book-count, book-record, book-setting}
@@ -40,16 +39,16 @@ module _ (s : List ℕ) (undamaged : isBook s ≡ true) (t name i : ℕ) where
     it-is : here .it ≡ recordAt s i
     it-is =
         sym (getD-at (here .front) (here .it) (here .back) (here .it) i (here .place))
-        ∙ ap (λ (l : List Held). getD l i (here .it)) (sym (here .whole))
+        ∙ ap (λ (l : List BookRecord). getD l i (here .it)) (sym (here .whole))
         ∙ book-record s i (here .it) found-within
 
-    pub found-cell : name < names → cellOf name (ownIn s t .cells) ≡ some (own (recordAt s i))
+    pub found-cell : name < names → cellOf name (ownIn s t .cells) ≡ some (cellIn (recordAt s i))
     unfolding ownOf
     found-cell small =
         let name-is : name ≡ nameOf (here .it) = omega (arith, here .name) in
         cell-found t name small (bookOf s .records) (here .it) (here .held)
         ∙ ap (λ (n : ℕ). some (named n (here .it))) name-is
-        ∙ ap (λ (r : Held). some (own r)) it-is
+        ∙ ap (λ (r : BookRecord). some (cellIn r)) it-is
 
   module _ (found : foundIn (fullName t name) (bookOf s .records) ≡ Absent i) where
     pub gone : Gone (fullName t name) (bookOf s .records) i

@@ -14,8 +14,7 @@ use Rattle.text.specs.Places.{numberAt}
 use Rattle.text.proofs.Every.{either}
 use Rattle.text.proofs.Places.{number-within, number-beyond, part-length, number-one, number-join, number-at-below}
 use Rattle.tenants.specs.declared.Held.{Held}
-use Rattle.tenants.specs.Together.{names, fullName}
-use Rattle.tenants.proofs.OwnCells.{own}
+use Rattle.tenants.specs.Together.{cellIn, names, fullName}
 use Rattle.layout.specs.Layout.{recordPlace, recordAt}
 
 -- the full name at a place: the tenant's byte, and the eight of the name
@@ -61,7 +60,7 @@ name-of-record s at below =
 -- a cell read field by field
 pub cell-read : (s : List ℕ) (i name edition key1 key2 : ℕ) → Below 256 s → name ≡ numberAt 8 s (recordPlace i + 1)
     → edition ≡ numberAt 2 s (recordPlace i + 9) → key1 ≡ numberAt 5 s (recordPlace i + 11) → key2 ≡ numberAt 5 s (recordPlace i + 16)
-    → _≡_ {A = Held} (record { name = name; edition = edition; key1 = key1; key2 = key2 }) (own (recordAt s i))
+    → _≡_ {A = Held} (record { name = name; edition = edition; key1 = key1; key2 = key2 }) (cellIn (recordAt s i))
 unfolding recordAt
 cell-read s i name edition key1 key2 below a b c d =
     rw (a ∙ name-of-record s (recordPlace i) below, b, c, d) refl

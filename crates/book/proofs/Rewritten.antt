@@ -9,7 +9,7 @@ use lib.ListN.{length, length-append}
 use Rattle.text.specs.Numbers.{bytesOf}
 use Rattle.text.specs.Texts.{placed}
 use Rattle.text.proofs.Digits.{digits-length}
-use Rattle.tenants.specs.declared.Held.{Held}
+use Rattle.tenants.specs.Together.{BookRecord}
 use Rattle.tenants.specs.declared.Setting.{Setting}
 use Rattle.tenants.specs.Alone.{withDays}
 use Rattle.layout.specs.Layout.{
@@ -30,22 +30,22 @@ use Rattle.layout.proofs.Splits.{rest-room, bytesBefore, bytesFrom, before-size
 use Rattle.book.specs.Moves.{usedPut, recordInserted, recordRemoved}
 use Rattle.book.proofs.Around.{replaced-at, inserted-at, removed-at}
 
-from-first : (n : ℕ) (r : Held) (back : List Held) → bytesFrom n (r ∷ back) ≡ recordBytes r ++ bytesFrom n back
+from-first : (n : ℕ) (r : BookRecord) (back : List BookRecord) → bytesFrom n (r ∷ back) ≡ recordBytes r ++ bytesFrom n back
 unfolding allBytes
 from-first n r back = append-assoc (recordBytes r) (allBytes recordBytes back) (rest n)
 
 module _ (settings : List Setting) (sixteen : length settings ≡ 16) where
-  abbrev with : List Held → List ℕ
+  abbrev with : List BookRecord → List ℕ
   with records = bookBytes (record { settings = settings; records = records })
 
   -- cut at a record, where n are told
-  cut : (n : ℕ) (front back : List Held) → length (front ++ back) ≡ n
+  cut : (n : ℕ) (front back : List BookRecord) → length (front ++ back) ≡ n
       → with (front ++ back) ≡ bytesBefore n settings front ++ bytesFrom n back
   cut n front back e =
       cut-bytes (record { settings = settings; records = front ++ back }) front back refl
       ∙ ap (λ (m : ℕ). bytesBefore m settings front ++ bytesFrom m back) e
 
-  used-put : (n m : ℕ) (front : List Held) (l : List ℕ)
+  used-put : (n m : ℕ) (front : List BookRecord) (l : List ℕ)
       → usedPut m (bytesBefore n settings front ++ l) ≡ bytesBefore m settings front ++ l
   used-put n m front l =
       ap (usedPut m) (parts n)
@@ -59,11 +59,11 @@ module _ (settings : List Setting) (sixteen : length settings ≡ 16) where
       parts : (n : ℕ) → bytesBefore n settings front ++ l ≡ (1 ∷ []) ++ (bytesOf 4 (usedLength n) ++ after)
       parts n = simp append-assoc
 
-  module _ (front : List Held) (c : Held) (back : List Held) where
+  module _ (front : List BookRecord) (c : BookRecord) (back : List BookRecord) where
     more : (n : ℕ) → length (front ++ back) ≡ n → length (front ++ (c ∷ back)) ≡ suc n
     more n e = simp length-append (omega (arith, sym (length-append front back) ∙ e))
 
-    pub record-replaced : (it : Held)
+    pub record-replaced : (it : BookRecord)
         → placed (recordPlace (length front)) (recordBytes c) (with (front ++ (it ∷ back))) ≡ with (front ++ (c ∷ back))
     record-replaced it =
         let n : ℕ = length (front ++ (c ∷ back)) in
@@ -113,7 +113,7 @@ module _ (settings : List Setting) (sixteen : length settings ≡ 16) where
           less = omega arith
 
 -- the warning days of the setting after some others
-pub days-replaced : (days : ℕ) (records : List Held) (front : List Setting) (x : Setting) (back : List Setting)
+pub days-replaced : (days : ℕ) (records : List BookRecord) (front : List Setting) (x : Setting) (back : List Setting)
     → placed (settingPlace (length front) + 2) (bytesOf 1 days) (bookBytes (record { settings = front ++ (x ∷ back); records = records }))
     ≡ bookBytes (record { settings = front ++ (withDays days x ∷ back); records = records })
 days-replaced days records front x back =

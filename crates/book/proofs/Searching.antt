@@ -9,8 +9,7 @@ use borrow.Author.Tests.{ltb-true, ltb-false, eqb-true, eqb-false}
 use lib.Dec.{ltb, eqb}
 use lib.ListN.{length, getD, take, drop}
 use Rattle.text.specs.Places.{numberAt}
-use Rattle.tenants.specs.declared.Held.{Held}
-use Rattle.tenants.specs.Together.{fullName, ownOf}
+use Rattle.tenants.specs.Together.{BookRecord, fullName, ownOf}
 use Rattle.layout.specs.Layout.{recordSize, recordPlace, recordAt, recordCount, bookOf, isBook}
 use Rattle.layout.proofs.Frame.{book-frame}
 use Rattle.layout.proofs.Indexed.{book-count, book-record}
@@ -39,7 +38,7 @@ module _ (s : List ℕ) (full : ℕ) (undamaged : isBook s ≡ true) where
     name-is =
         number-of-part 9 (recordPlace i + recordSize - recordPlace i) s (recordPlace i) (omega arith)
         (omega (arith, book-frame s undamaged .size, book-frame s undamaged .few))
-        ∙ ap (λ (r : Held). r .name) (sym (book-record s i (recordAt s i) inside))
+        ∙ ap (λ (r : BookRecord). r .name) (sym (book-record s i (recordAt s i) inside))
 
     pub turn-up : ltb (numberAt 9 bytes 0) full ≡ true → i < place
     turn-up low =

@@ -37,13 +37,15 @@ OpensEmpty =
     (quotas ids s book : List ℕ) → opened quotas ids s ≡ text book
     → (isBook book ≡ true) × (bookOf book ≡ emptyBook quotas ids)
 
--- what is issued for a ship is the line of the held cell, and the tenant's own check of it answers that cell with the notice of its own days
+-- what is issued for a ship is the line of the cell that is held under the name asked for, and the tenant's own check of it answers that cell
+-- with the notice of its own days
 abbrev pub IssuedReadsBack : Type 0
 IssuedReadsBack =
     (s register permit : List ℕ) (t name expiry level room hw m today : ℕ) (cell : Held)
     → isBook s ≡ true → isTenant t ≡ true → isRegister register ≡ true → readPermit register permit ≡ Ship hw m
     → cellOf name (ownIn s t .cells) ≡ some cell → isDate expiry ≡ true → level ≤ 1 → 76 ≤ room → isDate today ≡ true
-    → (issuedFrom s register t name expiry level permit room
+    → (cell .name ≡ name)
+    × ((issuedFrom s register t name expiry level permit room
     ≡ text (lineOf (shipWords hw) (lineCell (ownIn s t .setting) cell expiry level) ++ lineEnd))
     × (checkedBy s t hw today (lineOf (shipWords hw) (lineCell (ownIn s t .setting) cell expiry level))
-    ≡ recordFor today (ownIn s t .setting .days) (lineCell (ownIn s t .setting) cell expiry level))
+    ≡ recordFor today (ownIn s t .setting .days) (lineCell (ownIn s t .setting) cell expiry level)))

@@ -4,7 +4,7 @@ use Prim.Native.Nat.{ℕ, suc, _+_, _-_}
 use lib.ListN.{take, drop}
 use Rattle.text.specs.Numbers.{bytesOf}
 use Rattle.text.specs.Texts.{placed}
-use Rattle.tenants.specs.declared.Held.{Held}
+use Rattle.tenants.specs.Together.{BookRecord}
 use Rattle.layout.specs.Layout.{recordSize, zeros, recordBytes, usedLength, recordPlace}
 
 -- s with the bytes from a place to the used length moved up by k: a gap of k bytes opens at the place
@@ -24,7 +24,7 @@ abbrev pub usedPut : ℕ → List ℕ → List ℕ
 usedPut n s = placed 1 (bytesOf 4 (usedLength n)) s
 
 -- s with r put in as record i of n
-abbrev pub recordInserted : ℕ → ℕ → Held → List ℕ → List ℕ
+abbrev pub recordInserted : ℕ → ℕ → BookRecord → List ℕ → List ℕ
 recordInserted n i r s = usedPut (suc n) (placed (recordPlace i) (recordBytes r) (gapAt recordSize (recordPlace i) (usedLength n) s))
 
 -- s with record i of n taken out

@@ -8,8 +8,9 @@ ghost use Rattle.dates.specs.Calendar.{isDate};
 ghost use Rattle.permit.specs.Identifiers.{isCellName};
 ghost use Rattle.permit.specs.Output.{writtenOf, lentAfter};
 ghost use Rattle.tenants.specs.Cells.{cellOf};
-ghost use Rattle.tenants.specs.Rules.{lineFor, asking, issuing, checking};
+ghost use Rattle.tenants.specs.Rules.{asking, issuing, checking};
 ghost use Rattle.layout.specs.Layout.{isBook};
+ghost use Rattle.book.specs.Issuing.{lineWritten};
 ghost use Rattle.book.specs.OnBook.{ownIn, editionIn, issuedFrom, checkedBy};
 use super::finding::Found;
 use super::finding::cell_at;
@@ -72,9 +73,9 @@ fn issue_for(
     out: &mut [u8],
 ) -> Written
     requires { ⌜ (isBook (now book) ≡ true) × (tenant ≤ 15) ⌝ }
-    ensures { λ r. ⌜ (r ≡ writtenOf (lineFor ship (cellOf name (ownIn (now (book .entry)) tenant .cells))
+    ensures { λ r. ⌜ (r ≡ writtenOf (lineWritten ship (cellOf name (ownIn (now (book .entry)) tenant .cells))
         (ownIn (now (book .entry)) tenant .setting) expiry level (length (now (out .entry)))))
-        × (now (out .exit) ≡ lentAfter (lineFor ship (cellOf name (ownIn (now (book .entry)) tenant .cells))
+        × (now (out .exit) ≡ lentAfter (lineWritten ship (cellOf name (ownIn (now (book .entry)) tenant .cells))
         (ownIn (now (book .entry)) tenant .setting) expiry level (length (now (out .entry)))) (now (out .entry))) ⌝ }
 {
     let hw = match ship {

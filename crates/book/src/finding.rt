@@ -5,7 +5,7 @@ ghost use Prim.Native.Nat.{_≤_, _<_};
 ghost use lib.Dec.{ltb, eqb};
 ghost use lib.ListN.{length};
 ghost use Rattle.text.specs.Places.{numberAt};
-ghost use Rattle.tenants.specs.Together.{fullName, nameOf, named};
+ghost use Rattle.tenants.specs.Together.{fullName, cellIn};
 ghost use Rattle.layout.specs.Layout.{recordAt, bookOf, isBook};
 ghost use Rattle.book.specs.OnBook.{ownIn};
 ghost use Rattle.book.specs.Finding.{placeOf, foundIn};
@@ -91,7 +91,7 @@ pub(crate) fn held_by(book: &[u8], tenant: u32) -> usize
 // The cell of record i by its name.
 pub(crate) fn cell_at(book: &[u8], i: usize) -> Held
     requires { ⌜ i < 512 ⌝ }
-    ensures { λ r. ⌜ r ≡ named (nameOf (recordAt (now (book .entry)) i)) (recordAt (now (book .entry)) i) ⌝ }
+    ensures { λ r. ⌜ r ≡ cellIn (recordAt (now (book .entry)) i) ⌝ }
 {
     let at = RECORDS_PLACE + RECORD_SIZE * i;
     Held {

@@ -5,7 +5,7 @@ ghost use Prim.Native.Nat.{_+_, _≤_, _<_};
 ghost use lib.ListN.{length};
 ghost use Rattle.text.specs.Numbers.{bytesOf};
 ghost use Rattle.text.specs.Texts.{placed};
-ghost use Rattle.tenants.specs.Together.{fullName, named};
+ghost use Rattle.tenants.specs.Together.{fullName, inBook};
 ghost use Rattle.layout.specs.Layout.{recordSize, bookSize, zeros, recordBytes};
 ghost use Rattle.book.specs.Moves.{gapAt, movedDown, gapClosed, usedPut, recordInserted, recordRemoved};
 use layout::RECORD_SIZE;
@@ -73,7 +73,7 @@ fn put_keys(book: &mut [u8], at: usize, key1: u64, key2: u64)
 // Writes a tenant's cell as a record.
 pub(crate) fn put_record(book: &mut [u8], at: usize, tenant: u32, cell: Held)
     requires { ⌜ (tenant < 256) × (cell .edition < 65536) × (at + recordSize ≤ length (now book)) ⌝ }
-    ensures { λ _. ⌜ now (book .exit) ≡ placed at (recordBytes (named (fullName tenant (cell .name)) cell)) (now (book .entry)) ⌝ }
+    ensures { λ _. ⌜ now (book .exit) ≡ placed at (recordBytes (inBook tenant cell)) (now (book .entry)) ⌝ }
 {
     let edition = text::numbers::bytes16(cell.edition as u16);
     put_full_name(book, at, tenant, cell.name);
@@ -94,7 +94,7 @@ fn put_used(book: &mut [u8], n: usize)
 pub(crate) fn insert_record(book: &mut [u8], n: usize, i: usize, tenant: u32, cell: Held)
     requires { ⌜ (i ≤ n) × (n < 512) × (length (now book) ≡ bookSize) ⌝ }
     requires { ⌜ (tenant < 256) × (cell .edition < 65536) ⌝ }
-    ensures { λ _. ⌜ now (book .exit) ≡ recordInserted n i (named (fullName tenant (cell .name)) cell) (now (book .entry)) ⌝ }
+    ensures { λ _. ⌜ now (book .exit) ≡ recordInserted n i (inBook tenant cell) (now (book .entry)) ⌝ }
 {
     let at = RECORDS_PLACE + RECORD_SIZE * i;
     open_gap(book, at, RECORDS_PLACE + RECORD_SIZE * n);

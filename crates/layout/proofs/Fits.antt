@@ -12,11 +12,10 @@ use Rattle.text.specs.Characters.{isNameCharacter}
 use Rattle.text.proofs.Every.{and-first, and-second}
 use Rattle.permit.specs.Identifiers.{isCellName, isCellKey, isServerId}
 use Rattle.permit.proofs.GoodCell.{text-fits}
-use Rattle.tenants.specs.declared.Held.{Held}
 use Rattle.tenants.specs.declared.Setting.{Setting}
 use Rattle.tenants.specs.Rules.{isTenant, isDays, isHeld}
 use Rattle.tenants.specs.Cells.{startsAbove}
-use Rattle.tenants.specs.Together.{Book, tenantOf, nameOf, named, isSetting, areSettings, quotaSum, isRecord, areRecords, withinQuotas, isGood}
+use Rattle.tenants.specs.Together.{cellIn, BookRecord, Book, tenantOf, nameOf, named, isSetting, areSettings, quotaSum, isRecord, areRecords, withinQuotas, isGood}
 use Rattle.layout.proofs.Each.{Each}
 
 pub record SettingFits (x : Setting) : Type 0 where
@@ -24,7 +23,7 @@ pub record SettingFits (x : Setting) : Type 0 where
   pub days : x .days < 256 ^ 1
   pub server : x .server < 256 ^ 2
 
-pub record RecordFits (r : Held) : Type 0 where
+pub record RecordFits (r : BookRecord) : Type 0 where
   pub name : r .name < 256 ^ 9
   pub edition : r .edition < 256 ^ 2
   pub key1 : r .key1 < 256 ^ 5
@@ -57,11 +56,11 @@ settings-fit (x ∷ settings) good most = (
 full-name-fits : (full : ℕ) → full / 18446744073709551616 ≤ 15 → full < 256 ^ 9
 full-name-fits full h = omega arith
 
-record-fits : (r : Held) → isRecord r ≡ true → RecordFits r
+record-fits : (r : BookRecord) → isRecord r ≡ true → RecordFits r
 unfolding isRecord isTenant isHeld
 record-fits r good =
-    let tenant = and-first (isTenant (tenantOf r)) (isHeld (named (nameOf r) r)) good in
-    let held = and-second (isTenant (tenantOf r)) (isHeld (named (nameOf r) r)) good in
+    let tenant = and-first (isTenant (tenantOf r)) (isHeld (cellIn r)) good in
+    let held = and-second (isTenant (tenantOf r)) (isHeld (cellIn r)) good in
     let edition = leb 1 (r .edition) && leb (r .edition) 999 in
     let keyed = and-first (isCellName (nameOf r) && edition && isCellKey (r .key1)) (isCellKey (r .key2)) held in
     let named = and-first (isCellName (nameOf r) && edition) (isCellKey (r .key1)) keyed in
@@ -73,7 +72,7 @@ record-fits r good =
       key2 = ltb-true (r .key2) (256 ^ 5) (and-second (isCellName (nameOf r) && edition && isCellKey (r .key1)) (isCellKey (r .key2)) held);
     }
 
-records-fit : (records : List Held) → areRecords records ≡ true → Each RecordFits records
+records-fit : (records : List BookRecord) → areRecords records ≡ true → Each RecordFits records
 unfolding areRecords
 records-fit [] good = tt
 records-fit (r ∷ records) good =

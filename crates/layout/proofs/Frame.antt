@@ -13,9 +13,8 @@ use Rattle.text.specs.Places.{numberAt}
 use Rattle.text.specs.Texts.{part}
 use Rattle.text.proofs.Digits.{digits-length}
 use Rattle.text.proofs.Places.{bytes-at}
-use Rattle.tenants.specs.declared.Held.{Held}
 use Rattle.tenants.specs.declared.Setting.{Setting}
-use Rattle.tenants.specs.Together.{Book}
+use Rattle.tenants.specs.Together.{BookRecord, Book}
 use Rattle.layout.specs.Layout.{
   settingSize,
   recordSize,
@@ -133,7 +132,7 @@ module _ (book : Book) (fits : BookFits book) where
       (omega (arith, settings-size (book .settings), fits .sixteen))
       ∙ last-zero (book .settings) t
 
-  record-zero : (before : List Held) (r : Held) (after : List Held) → book .records ≡ before ++ (r ∷ after)
+  record-zero : (before : List BookRecord) (r : BookRecord) (after : List BookRecord) → book .records ≡ before ++ (r ∷ after)
       → numberAt 3 (bookBytes book) (recordPlace (length before) + 21) ≡ 0
   unfolding allBytes
   record-zero before r after cut =
@@ -170,8 +169,8 @@ module _ (book : Book) (fits : BookFits book) where
       zeros-there : (i : ℕ) → i < recordCount (bookBytes book) → numberAt 3 (bookBytes book) (recordPlace i + 21) ≡ 0
       zeros-there i h =
           let within : i < m = omega (arith, count-back book fits) in
-          let none : Held = record { name = 0; edition = 0; key1 = 0; key2 = 0 } in
-          let before : List Held = take i (book .records) in
+          let none : BookRecord = record { name = 0; edition = 0; key1 = 0; key2 = 0 } in
+          let before : List BookRecord = take i (book .records) in
           ap (λ (k : ℕ). numberAt 3 (bookBytes book) (recordPlace k + 21)) (sym (length-take-le i (book .records) (omega arith)))
           ∙ record-zero before (getD (book .records) i none) (drop (suc i) (book .records)) (split-at (book .records) i none within)
 

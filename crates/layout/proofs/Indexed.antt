@@ -4,7 +4,7 @@ use mathlib.Core.Path.{_≡_}
 use mathlib.Core.List.{List}
 use Prim.Native.Nat.{ℕ, _<_}
 use lib.ListN.{length, getD}
-use Rattle.tenants.specs.declared.Held.{Held}
+use Rattle.tenants.specs.Together.{BookRecord}
 use Rattle.tenants.specs.declared.Setting.{Setting}
 use Rattle.layout.specs.Layout.{settingAt, recordAt, recordCount, bookOf}
 use Rattle.layout.proofs.Each.{each-count, each-is}
@@ -14,7 +14,7 @@ module _ (s : List ℕ) where
   unfolding bookOf
   book-count = each-count (recordAt s) 0 (recordCount s)
 
-  pub book-record : (i : ℕ) (none : Held) → i < recordCount s → getD (bookOf s .records) i none ≡ recordAt s i
+  pub book-record : (i : ℕ) (none : BookRecord) → i < recordCount s → getD (bookOf s .records) i none ≡ recordAt s i
   unfolding bookOf
   book-record i none h = each-is (recordAt s) (recordCount s) i none h
 

@@ -8,8 +8,7 @@ use borrow.Author.Tests.{le-leb, lt-leb}
 use lib.Dec.{leb}
 use lib.ListN.{length}
 use Rattle.text.specs.Places.{numberAt}
-use Rattle.tenants.specs.declared.Held.{Held}
-use Rattle.tenants.specs.Together.{cellsOf, withinQuotas}
+use Rattle.tenants.specs.Together.{BookRecord, cellsOf, withinQuotas}
 use Rattle.layout.specs.Layout.{settingPlace, settingAt, eachFrom}
 use Rattle.layout.specs.Judging.{allFrom, quotaTest}
 
@@ -25,7 +24,7 @@ module _ (held : ℕ → ℕ) (s : List ℕ) (t quota : ℕ) (is : quota ≡ num
   quota-kept low = tested ∙ le-leb (held t) quota low
 
 -- the test on bytes is the test of what the bytes say
-pub quotas-tested : (held : ℕ → ℕ) (records : List Held) → ((u : ℕ) → held u ≡ length (cellsOf u records)) → (s : List ℕ) (t n : ℕ)
+pub quotas-tested : (held : ℕ → ℕ) (records : List BookRecord) → ((u : ℕ) → held u ≡ length (cellsOf u records)) → (s : List ℕ) (t n : ℕ)
     → allFrom (quotaTest held s) t n ≡ withinQuotas t (eachFrom (settingAt s) t n) records
 unfolding allFrom quotaTest withinQuotas eachFrom settingAt
 quotas-tested held records same s t zero = refl

@@ -10,9 +10,8 @@ use Rattle.text.specs.Numbers.{bytesOf}
 use Rattle.text.specs.Places.{numberAt}
 use Rattle.text.proofs.Digits.{digits-length}
 use Rattle.text.proofs.Places.{number-written}
-use Rattle.tenants.specs.declared.Held.{Held}
 use Rattle.tenants.specs.declared.Setting.{Setting}
-use Rattle.tenants.specs.Together.{Book}
+use Rattle.tenants.specs.Together.{BookRecord, Book}
 use Rattle.layout.specs.Layout.{
   settingSize,
   recordSize,
@@ -69,7 +68,7 @@ module _ (x : Setting) (t : ℕ) (front back : List ℕ) (start : length front �
           number-back 2 (x .server) (settingPlace t + 3) (before-days ++ bytesOf 1 (x .days)) (zeros 1 ++ back)
           (unfold settingBytes in simp append-assoc) (simp (length-append, digits-length) (omega arith)) (fits .server)
 
-module _ (r : Held) (i : ℕ) (front back : List ℕ) (start : length front ≡ recordPlace i) (fits : RecordFits r) where
+module _ (r : BookRecord) (i : ℕ) (front back : List ℕ) (start : length front ≡ recordPlace i) (fits : RecordFits r) where
   record-back : recordAt (front ++ (recordBytes r ++ back)) i ≡ r
   record-back = unfold recordAt in λ j. record { name = name j; edition = edition j; key1 = key1 j; key2 = key2 j }
     where
@@ -160,6 +159,6 @@ module _ (book : Book) (fits : BookFits book) where
   pub book-back : bookOf (bookBytes book) ≡ book
   unfolding bookOf
   book-back =
-      ap₂ (λ (settings : List Setting) (records : List Held). record { settings = settings; records = records })
+      ap₂ (λ (settings : List Setting) (records : List BookRecord). record { settings = settings; records = records })
       all-settings
       (ap (eachFrom (recordAt (bookBytes book)) 0) count-back ∙ all-records)

@@ -6,9 +6,8 @@ use Prim.Native.Nat.{_*_, _≤_}
 use native.Mathlib.Omega.{arith}
 use lib.ListN.{length, length-append, length-replicate}
 use Rattle.text.proofs.Digits.{digits-length}
-use Rattle.tenants.specs.declared.Held.{Held}
 use Rattle.tenants.specs.declared.Setting.{Setting}
-use Rattle.tenants.specs.Together.{Book}
+use Rattle.tenants.specs.Together.{BookRecord, Book}
 use Rattle.layout.specs.Layout.{settingSize, recordSize, bookSize, settingBytes, recordBytes, allBytes, bookBytes}
 use Rattle.layout.proofs.Each.{bytes-size}
 
@@ -16,14 +15,14 @@ pub setting-size : (x : Setting) → length (settingBytes x) ≡ settingSize
 unfolding settingBytes
 setting-size x = simp (length-append, digits-length)
 
-pub record-size : (r : Held) → length (recordBytes r) ≡ recordSize
+pub record-size : (r : BookRecord) → length (recordBytes r) ≡ recordSize
 unfolding recordBytes
 record-size r = simp (length-append, digits-length)
 
 pub settings-size : (settings : List Setting) → length (allBytes settingBytes settings) ≡ settingSize * length settings
 settings-size = bytes-size settingSize settingBytes setting-size
 
-pub records-size : (records : List Held) → length (allBytes recordBytes records) ≡ recordSize * length records
+pub records-size : (records : List BookRecord) → length (allBytes recordBytes records) ≡ recordSize * length records
 records-size = bytes-size recordSize recordBytes record-size
 
 pub book-size : (book : Book) → length (book .settings) ≡ 16 → length (book .records) ≤ 512 → length (bookBytes book) ≡ bookSize

@@ -14,10 +14,9 @@ use Rattle.text.specs.Places.{numberAt}
 use Rattle.text.proofs.Every.{and-first, and-second, either}
 use Rattle.text.proofs.Places.{number-join, number-at-below}
 use Rattle.permit.specs.Identifiers.{isText, isCellName}
-use Rattle.tenants.specs.declared.Held.{Held}
 use Rattle.tenants.specs.Cells.{startsAbove}
 use Rattle.tenants.specs.Rules.{isTenant, isHeld}
-use Rattle.tenants.specs.Together.{fullName, tenantOf, nameOf, named, cellsOf, isRecord, areRecords}
+use Rattle.tenants.specs.Together.{cellIn, BookRecord, fullName, tenantOf, nameOf, named, cellsOf, isRecord, areRecords}
 use Rattle.layout.specs.Layout.{recordSize, recordPlace, usedLength, recordAt, eachFrom}
 use Rattle.layout.specs.Judging.{recordPart, aboveTest, recordTest, recordTests, heldFrom}
 use Rattle.layout.proofs.Told.{byte-number}
@@ -37,15 +36,15 @@ unfolding isText digits allOf isNameCharacter isDigit
 zero-no-name = refl
 
 -- no cell name is 0, so the first record is above what the tests begin with
-name-positive : (r : Held) → isRecord r ≡ true → ltb (fullName 0 0) (r .name) ≡ true
+name-positive : (r : BookRecord) → isRecord r ≡ true → ltb (fullName 0 0) (r .name) ≡ true
 unfolding isRecord isHeld
 name-positive r right =
     either (eqb (r .name) 0)
     (λ none. let e : nameOf r ≡ 0 = omega (arith, eqb-true (r .name) 0 none) in
-    cc (rw (e, zero-no-name) at (and-second (isTenant (tenantOf r)) (isHeld (named (nameOf r) r)) right)))
+    cc (rw (e, zero-no-name) at (and-second (isTenant (tenantOf r)) (isHeld (cellIn r)) right)))
     (λ some. lt-ltb (fullName 0 0) (r .name) (omega (arith, eqb-false (r .name) 0 some)))
 
-pub first-above : (records : List Held) → areRecords records ≡ true → startsAbove (fullName 0 0) records ≡ true
+pub first-above : (records : List BookRecord) → areRecords records ≡ true → startsAbove (fullName 0 0) records ≡ true
 unfolding areRecords startsAbove
 first-above [] right = refl
 first-above (r ∷ records) right =

@@ -7,9 +7,8 @@ use lib.ListN.{length, replicate}
 use Rattle.text.specs.Numbers.{bytesOf}
 use Rattle.text.specs.Places.{numberAt}
 use Rattle.text.specs.Texts.{sameText}
-use Rattle.tenants.specs.declared.Held.{Held}
 use Rattle.tenants.specs.declared.Setting.{Setting}
-use Rattle.tenants.specs.Together.{Book, isGood}
+use Rattle.tenants.specs.Together.{Book, BookRecord, full, isGood}
 
 -- how many bytes a setting has
 abbrev pub settingSize : ℕ
@@ -40,8 +39,8 @@ unfoldable pub settingBytes : Setting → List ℕ
 settingBytes s = bytesOf 2 (s .quota) ++ (bytesOf 1 (s .days) ++ (bytesOf 2 (s .server) ++ zeros 1))
 
 -- a record: tenant (1) and cell name (8), which are the full name, edition (2), keys (5 + 5), three zeros
-unfoldable pub recordBytes : Held → List ℕ
-recordBytes r = bytesOf 9 (r .name) ++ (bytesOf 2 (r .edition) ++ (bytesOf 5 (r .key1) ++ (bytesOf 5 (r .key2) ++ zeros 3)))
+unfoldable pub recordBytes : BookRecord → List ℕ
+recordBytes r = bytesOf 9 (full r) ++ (bytesOf 2 (r .edition) ++ (bytesOf 5 (r .key1) ++ (bytesOf 5 (r .key2) ++ zeros 3)))
 
 -- the bytes of all, one after the other
 unfoldable pub allBytes : {A : Type 0} → (A → List ℕ) → List A → List ℕ
@@ -77,7 +76,7 @@ settingAt s t = record {
 }
 
 -- record i
-unfoldable pub recordAt : List ℕ → ℕ → Held
+unfoldable pub recordAt : List ℕ → ℕ → BookRecord
 recordAt s i = record {
   name = numberAt 9 s (recordPlace i);
   edition = numberAt 2 s (recordPlace i + 9);

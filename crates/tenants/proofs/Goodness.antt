@@ -10,10 +10,10 @@ use borrow.Author.Tests.{leb-true, le-leb, eqb-true, eq-eqb, lt-ltb}
 use lib.Dec.{leb}
 use lib.ListN.{length, getD}
 use Rattle.text.proofs.Every.{and-first, and-second}
-use Rattle.tenants.specs.declared.Held.{Held}
 use Rattle.tenants.specs.declared.Setting.{Setting}
 use Rattle.tenants.specs.Cells.{startsAbove}
 use Rattle.tenants.specs.Together.{
+  BookRecord,
   Book,
   cellsOf,
   noSetting,
@@ -28,7 +28,7 @@ use Rattle.tenants.specs.Together.{
 use Rattle.tenants.proofs.Ordered.{Above, Sorted, records-sorted}
 
 -- each record is one
-abbrev pub EachRecord : List Held → Type 0
+abbrev pub EachRecord : List BookRecord → Type 0
 EachRecord [] = Unit {0}
 EachRecord (r ∷ records) = (isRecord r ≡ true) × EachRecord records
 
@@ -37,7 +37,7 @@ abbrev EachSetting : List Setting → Type 0
 EachSetting settings = (t : ℕ) → t < length settings → isSetting (getD settings t noSetting) ≡ true
 
 -- no tenant from t on holds more than its quota; the settings are those of tenant t and the following
-abbrev pub Within : ℕ → List Setting → List Held → Type 0
+abbrev pub Within : ℕ → List Setting → List BookRecord → Type 0
 Within t settings records = (i : ℕ) → i < length settings → length (cellsOf (t + i) records) ≤ getD settings i noSetting .quota
 
 -- a good book
@@ -61,7 +61,7 @@ unfolding areSettings
 each-settings [] each = refl
 each-settings (s ∷ settings) each = rw (each 0 (omega arith), each-settings settings (λ t h. each (suc t) (omega arith)))
 
-records-each : (records : List Held) → areRecords records ≡ true → EachRecord records
+records-each : (records : List BookRecord) → areRecords records ≡ true → EachRecord records
 unfolding areRecords
 records-each [] are = tt
 records-each (r ∷ records) are =
@@ -69,26 +69,26 @@ records-each (r ∷ records) are =
     let first : isRecord r && starts ≡ true = and-first (isRecord r && starts) (areRecords records) are in
     (and-first (isRecord r) starts first, records-each records (and-second (isRecord r && starts) (areRecords records) are))
 
-above-starts : (name : ℕ) (records : List Held) → Above name records → startsAbove name records ≡ true
+above-starts : (name : ℕ) (records : List BookRecord) → Above name records → startsAbove name records ≡ true
 unfolding startsAbove
 above-starts name [] above = refl
 above-starts name (r ∷ records) above = lt-ltb name (r .name) (above .0)
 
-each-records : (records : List Held) → EachRecord records → Sorted records → areRecords records ≡ true
+each-records : (records : List BookRecord) → EachRecord records → Sorted records → areRecords records ≡ true
 unfolding areRecords
 each-records [] each sorted = refl
 each-records (r ∷ records) each sorted =
     rw (each .0, above-starts (r .name) records (sorted .0), each-records records (each .1) (sorted .1))
 
-pub within-first : (t : ℕ) (s : Setting) (settings : List Setting) (records : List Held) → Within t (s ∷ settings) records
+pub within-first : (t : ℕ) (s : Setting) (settings : List Setting) (records : List BookRecord) → Within t (s ∷ settings) records
     → length (cellsOf t records) ≤ s .quota
 within-first t s settings records within = rw add-zero at (within 0 (omega arith))
 
-pub within-rest : (t : ℕ) (s : Setting) (settings : List Setting) (records : List Held) → Within t (s ∷ settings) records
+pub within-rest : (t : ℕ) (s : Setting) (settings : List Setting) (records : List BookRecord) → Within t (s ∷ settings) records
     → Within (suc t) settings records
 within-rest t s settings records within i h = rw (suc-add, ← add-suc) (within (suc i) (omega arith))
 
-quotas-within : (t : ℕ) (settings : List Setting) (records : List Held) → withinQuotas t settings records ≡ true → Within t settings records
+quotas-within : (t : ℕ) (settings : List Setting) (records : List BookRecord) → withinQuotas t settings records ≡ true → Within t settings records
 unfolding withinQuotas
 quotas-within t [] records are i h = absurd (omega arith)
 quotas-within t (s ∷ settings) records are zero h =
@@ -98,7 +98,7 @@ quotas-within t (s ∷ settings) records are (suc i) h =
     rw (add-suc, ← suc-add) (quotas-within (suc t) settings records
     (and-second (leb (length (cellsOf t records)) (s .quota)) (withinQuotas (suc t) settings records) are) i (omega arith))
 
-within-quotas : (t : ℕ) (settings : List Setting) (records : List Held) → Within t settings records → withinQuotas t settings records ≡ true
+within-quotas : (t : ℕ) (settings : List Setting) (records : List BookRecord) → Within t settings records → withinQuotas t settings records ≡ true
 unfolding withinQuotas
 within-quotas t [] records within = refl
 within-quotas t (s ∷ settings) records within =

@@ -16,6 +16,8 @@ use Rattle.tenants.specs.Rules.{Change, enters, withdraws, sets, nothing
 use Rattle.tenants.specs.Calls.{Call, changeOf}
 use Rattle.tenants.specs.Alone.{withDays}
 use Rattle.tenants.specs.Together.{
+  inBook,
+  BookRecord,
   Book,
   names,
   fullName,
@@ -29,20 +31,20 @@ use Rattle.tenants.specs.Together.{
   isGood,
 }
 use Rattle.tenants.proofs.Ordered.{Sorted, equal-or-not, entered-cases, withdrawn-cases, sorted-entered, sorted-withdrawn}
-use Rattle.tenants.proofs.OwnCells.{inBook, own-sorted, cells-entered, cells-entered-other, cells-withdrawn, cells-withdrawn-other}
+use Rattle.tenants.proofs.OwnCells.{own-sorted, cells-entered, cells-entered-other, cells-withdrawn, cells-withdrawn-other}
 use Rattle.tenants.proofs.Ranges.{tenant-below, name-below, held-below, record-is}
 use Rattle.tenants.proofs.Allowed.{Allowed, allowed}
 use Rattle.tenants.proofs.Goodness.{Good, EachRecord, good-facts, facts-good}
 use Rattle.tenants.proofs.Room.{few-records}
 use Rattle.tenants.proofs.Counts.{entered-within, withdrawn-most}
 
-each-entered : (c : Held) (records : List Held) → isRecord c ≡ true → EachRecord records → EachRecord (entered c records)
+each-entered : (c : BookRecord) (records : List BookRecord) → isRecord c ≡ true → EachRecord records → EachRecord (entered c records)
 unfolding entered
 each-entered c [] is each = (is, tt)
 each-entered c (d ∷ records) is each =
     entered-cases c d records EachRecord (λ _. (is, each)) (λ _. (is, each .1)) (λ _. (each .0, each-entered c records is (each .1)))
 
-each-withdrawn : (name : ℕ) (records : List Held) → EachRecord records → EachRecord (withdrawn name records)
+each-withdrawn : (name : ℕ) (records : List BookRecord) → EachRecord records → EachRecord (withdrawn name records)
 unfolding withdrawn
 each-withdrawn name [] each = tt
 each-withdrawn name (d ∷ records) each =
@@ -53,7 +55,7 @@ quotaOf t b = getD (b .settings) t noSetting .quota
 
 module _ (t : ℕ) (b : Book) (good : Good b) where
   -- with these records for its own
-  good-records : (records : List Held) → Sorted records → EachRecord records
+  good-records : (records : List BookRecord) → Sorted records → EachRecord records
       → ((u : ℕ) → u < 16 → length (cellsOf u records) ≤ quotaOf u b)
       → Good (record { settings = b .settings; records = records })
   good-records records sorted each within = record {
@@ -73,7 +75,7 @@ module _ (t : ℕ) (b : Book) (good : Good b) where
       (each-entered new (b .records) (record-is t cell tenant held) (good .each-record))
       within
     where
-      new : Held
+      new : BookRecord
       new = inBook t cell
 
       within : (u : ℕ) → u < 16 → length (cellsOf u (entered new (b .records))) ≤ quotaOf u b

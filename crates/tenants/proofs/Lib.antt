@@ -5,6 +5,7 @@ pub mod Allowed
 pub mod Goodness
 pub mod Room
 pub mod Counts
+pub mod OneList
 pub mod KeptGood
 pub mod FoundHeld
 pub mod Apart

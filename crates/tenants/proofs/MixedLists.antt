@@ -7,12 +7,11 @@ use Prim.Native.Nat.{ℕ}
 use borrow.Author.Tests.{eq-eqb, ne-eqb}
 use lib.Dec.{eqb}
 use lib.Seq.{ext-getD}
-use Rattle.tenants.specs.declared.Held.{Held}
 use Rattle.tenants.specs.declared.Setting.{Setting}
 use Rattle.tenants.specs.Rules.{Own}
 use Rattle.tenants.specs.Calls.{Call, Answer, changeOf, answerOf}
 use Rattle.tenants.specs.Alone.{Made, callsOf, after, answersAlone, ownAlone}
-use Rattle.tenants.specs.Together.{Book, noSetting, ownOf, changed}
+use Rattle.tenants.specs.Together.{BookRecord, Book, noSetting, ownOf, changed}
 use Rattle.tenants.proofs.Ordered.{equal-or-not}
 use Rattle.tenants.proofs.OwnCells.{same-records}
 use Rattle.tenants.proofs.Apart.{own-after, other-after}
@@ -75,7 +74,7 @@ module _ (t : ℕ) where
 same-books : (book other : Book) → Good book → Good other → ((t : ℕ) → ownOf t book ≡ ownOf t other) → book ≡ other
 unfolding ownOf
 same-books book other good good′ equal =
-    ap₂ (λ (s : List Setting) (l : List Held). record { settings = s; records = l })
+    ap₂ (λ (s : List Setting) (l : List BookRecord). record { settings = s; records = l })
     (ext-getD noSetting (book .settings) (other .settings) (good .sixteen ∙ sym (good′ .sixteen)) (λ t _. ap (λ (o : Own). o .setting) (equal t)))
     (same-records (book .records) (other .records) (good .sorted) (good′ .sorted) (λ t. ap (λ (o : Own). o .cells) (equal t)))
 

@@ -12,8 +12,7 @@ use Rattle.permit.specs.Identifiers.{isCellName, isCellKey}
 use Rattle.permit.proofs.GoodCell.{text-fits}
 use Rattle.tenants.specs.declared.Held.{Held}
 use Rattle.tenants.specs.Rules.{isTenant, isDays, isHeld}
-use Rattle.tenants.specs.Together.{names, tenantOf, isRecord}
-use Rattle.tenants.proofs.OwnCells.{own, inBook}
+use Rattle.tenants.specs.Together.{inBook, cellIn, BookRecord, names, tenantOf, isRecord}
 
 module _ (t : ℕ) where
   pub tenant-is : t ≤ 15 → isTenant t ≡ true
@@ -70,14 +69,14 @@ by-second-key cell name low high one =
     (λ h. lt-ltb (cell .key2) (256 ^ 5) (omega (arith, leb-true (cell .key2) 0xFF_FFFF_FFFF h)))
     (λ h. le-leb (cell .key2) 0xFF_FFFF_FFFF (omega (arith, ltb-true (cell .key2) (256 ^ 5) h))))
 
-module _ (r : Held) (is : isRecord r ≡ true) where
+module _ (r : BookRecord) (is : isRecord r ≡ true) where
   pub record-below : tenantOf r < 16
   unfolding isRecord
-  record-below = tenant-below (tenantOf r) (and-first (isTenant (tenantOf r)) (isHeld (own r)) is)
+  record-below = tenant-below (tenantOf r) (and-first (isTenant (tenantOf r)) (isHeld (cellIn r)) is)
 
-  pub record-held : isHeld (own r) ≡ true
+  pub record-held : isHeld (cellIn r) ≡ true
   unfolding isRecord
-  record-held = and-second (isTenant (tenantOf r)) (isHeld (own r)) is
+  record-held = and-second (isTenant (tenantOf r)) (isHeld (cellIn r)) is
 
 -- a tenant's cell is a record
 pub record-is : (t : ℕ) (cell : Held) → isTenant t ≡ true → isHeld cell ≡ true → isRecord (inBook t cell) ≡ true

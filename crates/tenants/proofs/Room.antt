@@ -6,16 +6,15 @@ use Prim.Native.Nat.{ℕ, zero, suc, _+_, _≤_, _<_, zero-le}
 use native.Mathlib.Nat.{add-zero, zero-add, add-suc, suc-add}
 use native.Mathlib.Omega.{arith}
 use lib.ListN.{length, getD}
-use Rattle.tenants.specs.declared.Held.{Held}
 use Rattle.tenants.specs.declared.Setting.{Setting}
-use Rattle.tenants.specs.Together.{Book, tenantOf, cellsOf, noSetting, quotaSum}
+use Rattle.tenants.specs.Together.{BookRecord, Book, tenantOf, cellsOf, noSetting, quotaSum}
 use Rattle.tenants.proofs.Ordered.{equal-or-not}
 use Rattle.tenants.proofs.OwnCells.{cells-mine, cells-not}
 use Rattle.tenants.proofs.Ranges.{record-below}
 use Rattle.tenants.proofs.Goodness.{Good, EachRecord, Within, within-first, within-rest}
 
 -- how many of the records the tenants of these settings hold, from tenant t on
-unfoldable heldFrom : ℕ → List Setting → List Held → ℕ
+unfoldable heldFrom : ℕ → List Setting → List BookRecord → ℕ
 heldFrom t [] records = 0
 heldFrom t (s ∷ settings) records = length (cellsOf t records) + heldFrom (suc t) settings records
 
@@ -25,7 +24,7 @@ none-held t [] = refl
 none-held t (s ∷ settings) = omega (arith, none-held (suc t) settings)
 
 -- one record more, which is tenant x's
-module _ (r : Held) (records : List Held) (x : ℕ)
+module _ (r : BookRecord) (records : List BookRecord) (x : ℕ)
     (own : length (cellsOf x (r ∷ records)) ≡ suc (length (cellsOf x records)))
     (other : (u : ℕ) → (x ≡ u → ⊥) → length (cellsOf u (r ∷ records)) ≡ length (cellsOf u records)) where
   held-before : (t : ℕ) (settings : List Setting) → x < t → heldFrom t settings (r ∷ records) ≡ heldFrom t settings records
@@ -43,7 +42,7 @@ module _ (r : Held) (records : List Held) (x : ℕ)
       (λ (apart : x ≡ t → ⊥). omega (arith, other t apart, held-among (suc t) settings (omega arith) (omega arith)))
 
 -- sixteen tenants hold all the records
-all-held : (settings : List Setting) (records : List Held) → length settings ≡ 16 → EachRecord records → heldFrom 0 settings records ≡ length records
+all-held : (settings : List Setting) (records : List BookRecord) → length settings ≡ 16 → EachRecord records → heldFrom 0 settings records ≡ length records
 all-held settings [] sixteen each = none-held 0 settings
 all-held settings (r ∷ records) sixteen each =
     held-among r records (tenantOf r)
@@ -52,7 +51,7 @@ all-held settings (r ∷ records) sixteen each =
     0 settings zero-le (rw (zero-add, sixteen) (record-below r (each .0)))
     ∙ ap suc (all-held settings records sixteen (each .1))
 
-module _ (records : List Held) where
+module _ (records : List BookRecord) where
   -- each tenant is within its quota, so all are within the sum
   within-sum : (t : ℕ) (settings : List Setting) → Within t settings records → heldFrom t settings records ≤ quotaSum settings
   unfolding heldFrom quotaSum
@@ -77,7 +76,7 @@ module _ (records : List Held) where
       )
 
 -- quotas that sum to at most 512 leave at most 512 records
-pub few-records : (settings : List Setting) (records : List Held) → length settings ≡ 16 → quotaSum settings ≤ 512 → EachRecord records
+pub few-records : (settings : List Setting) (records : List BookRecord) → length settings ≡ 16 → quotaSum settings ≤ 512 → EachRecord records
     → ((t : ℕ) → t < 16 → length (cellsOf t records) ≤ getD settings t noSetting .quota)
     → length records ≤ 512
 few-records settings records sixteen sum each within =

@@ -1,4 +1,4 @@
--- One list of cells, kept in name order.
+-- One list of cells, kept in name order: a tenant's own cells by their names, and the book's records by their full names.
 use mathlib.Core.Bool.{Bool, true, cond}
 use mathlib.Core.List.{List, [], _∷_}
 use mathlib.Core.Option.{Option, none, some}

@@ -3,3 +3,4 @@ pub mod Rules
 pub mod Calls
 pub mod Alone
 pub mod Together
+pub mod OneList

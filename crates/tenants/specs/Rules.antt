@@ -1,18 +1,18 @@
 -- The rules for one tenant, which go by its own list of cells and its own setting. Refusals stand in their order.
 use mathlib.Core.Bool.{Bool, true, false, _&&_, _||_}
-use mathlib.Core.List.{List}
+use mathlib.Core.List.{List, _++_}
 use mathlib.Core.Option.{Option, none, some}
 use Prim.Native.Nat.{ℕ}
 use lib.Dec.{leb, ltb}
 use lib.ListN.{length}
 use Rattle.dates.specs.Calendar.{isDate}
 use Rattle.permit.specs.Order.{demand}
-use Rattle.permit.specs.Identifiers.{isCellName, isCellKey}
+use Rattle.permit.specs.Identifiers.{isHwId, isCellName, isCellKey}
 use Rattle.permit.specs.Register.{isRegister}
 use Rattle.permit.specs.UserPermit.{readPermit}
-use Rattle.permit.specs.CellPermit.{writtenLine}
-use Rattle.permit.specs.Line.{readLine}
-use Rattle.permit.specs.Output.{Output, refusal}
+use Rattle.permit.specs.CellPermit.{shipWords, lineOf, lineEnd}
+use Rattle.permit.specs.Line.{readWith}
+use Rattle.permit.specs.Output.{Output, text, refusal}
 use Rattle.permit.specs.declared.line.Cell.{Cell}
 use Rattle.permit.specs.declared.line.Line.{Line}
 use Rattle.permit.specs.declared.line.Line.the-variants as of-line
@@ -110,10 +110,10 @@ lineCell setting cell expiry level = record {
 }
 
 -- the line for the ship of a user permit: 106, 17, 107 or 18 as the permit reads, then 104 where the cell is not held
-abbrev pub lineFor : UserPermit → Option Held → Setting → ℕ → ℕ → ℕ → Output
-lineFor (user-permit.Refused n) cell setting expiry level room = refusal n
-lineFor (user-permit.Ship hw m) none setting expiry level room = refusal 104
-lineFor (user-permit.Ship hw m) (some cell) setting expiry level room = writtenLine hw (lineCell setting cell expiry level) room
+abbrev pub lineFor : UserPermit → Option Held → Setting → ℕ → ℕ → Output
+lineFor (user-permit.Refused n) cell setting expiry level = refusal n
+lineFor (user-permit.Ship hw m) none setting expiry level = refusal 104
+lineFor (user-permit.Ship hw m) (some cell) setting expiry level = text (lineOf (shipWords hw) (lineCell setting cell expiry level) ++ lineEnd)
 
 -- issue a line, from cell name, expiry, service level and user permit, into an output of so many bytes
 unfoldable pub issuing : ℕ → List ℕ → ℕ → ℕ → ℕ → List ℕ → ℕ → Own → Output
@@ -122,8 +122,12 @@ issuing t register name expiry level permit room own =
     (demand (isTenant t) (refusal 102)
     (demand (leb 76 room) (refusal 108)
     (demand (isCellName name && isDate expiry && leb level 1) (refusal 103)
-    (lineFor (readPermit register permit) (cellOf name (own .cells)) (own .setting) expiry level room))))
+    (lineFor (readPermit register permit) (cellOf name (own .cells)) (own .setting) expiry level))))
 
--- check a line with the tenant's own warning days: 18, 14, 12, 13 and 21 as the line reads
+-- check a line with the tenant's own warning days: 12, 13 and 21 as the line reads
 unfoldable pub checking : ℕ → ℕ → ℕ → List ℕ → Own → Line
-checking t hw today line own = demand (isTenant t) (of-line.Refused 102) (readLine hw today (own .setting .days) line)
+checking t hw today line own =
+    demand (isTenant t) (of-line.Refused 102)
+    (demand (isHwId hw) (of-line.Refused 18)
+    (demand (isDate today) (of-line.Refused 14)
+    (readWith (shipWords hw) today (own .setting .days) line)))

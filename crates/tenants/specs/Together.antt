@@ -11,10 +11,14 @@ use Rattle.tenants.specs.Cells.{entered, withdrawn, startsAbove}
 use Rattle.tenants.specs.Rules.{Own, Change, enters, withdraws, sets, nothing, refuses, isTenant, isDays, isHeld}
 use Rattle.tenants.specs.Alone.{withDays}
 
--- the settings by tenant, and the records: each cell under its full name
+-- a record of the book is a tenant's cell under its full name; both lists, a tenant's cells and the records, are kept by the same rules
+abbrev pub BookRecord : Type 0
+BookRecord = Held
+
+-- the settings by tenant, and the records
 pub record Book : Type 0 where
   pub settings : List Setting
-  pub records : List Held
+  pub records : List BookRecord
 
 -- names are numbers of eight bytes, so below 256 ^ 8
 abbrev pub names : ℕ
@@ -24,22 +28,34 @@ names = 18446744073709551616
 abbrev pub fullName : ℕ → ℕ → ℕ
 fullName t name = t * names + name
 
--- the tenant of a record
-abbrev pub tenantOf : Held → ℕ
-tenantOf r = r .name / names
+-- the full name of a record
+abbrev pub full : BookRecord → ℕ
+full r = r .name
 
--- the cell name of a record
-abbrev pub nameOf : Held → ℕ
-nameOf r = r .name % names
+-- its tenant
+abbrev pub tenantOf : BookRecord → ℕ
+tenantOf r = full r / names
 
--- a cell under another name
+-- its cell name
+abbrev pub nameOf : BookRecord → ℕ
+nameOf r = full r % names
+
+-- the same edition and keys under another name
 abbrev pub named : ℕ → Held → Held
 named name cell = record { name = name; edition = cell .edition; key1 = cell .key1; key2 = cell .key2 }
 
+-- the record of tenant t's cell
+abbrev pub inBook : ℕ → Held → BookRecord
+inBook t cell = named (fullName t (cell .name)) cell
+
+-- the cell of a record, under its own name
+abbrev pub cellIn : BookRecord → Held
+cellIn r = named (nameOf r) r
+
 -- the cells of tenant t by their names
-unfoldable pub cellsOf : ℕ → List Held → List Held
+unfoldable pub cellsOf : ℕ → List BookRecord → List Held
 cellsOf t [] = []
-cellsOf t (r ∷ records) = cond (eqb (tenantOf r) t) (named (nameOf r) r ∷ cellsOf t records) (cellsOf t records)
+cellsOf t (r ∷ records) = cond (eqb (tenantOf r) t) (cellIn r ∷ cellsOf t records) (cellsOf t records)
 
 -- the setting of a number that is no tenant's
 abbrev pub noSetting : Setting
@@ -51,7 +67,7 @@ ownOf t book = record { setting = getD (book .settings) t noSetting; cells = cel
 
 -- the book after a change that tenant t makes
 abbrev pub changed : ℕ → Change → Book → Book
-changed t (enters cell) book = record { settings = book .settings; records = entered (named (fullName t (cell .name)) cell) (book .records) }
+changed t (enters cell) book = record { settings = book .settings; records = entered (inBook t cell) (book .records) }
 changed t (withdraws name) book = record { settings = book .settings; records = withdrawn (fullName t name) (book .records) }
 changed t (sets days) book = record { settings = set (book .settings) t (withDays days (getD (book .settings) t noSetting)); records = book .records }
 changed t nothing book = book
@@ -72,16 +88,16 @@ quotaSum [] = 0
 quotaSum (s ∷ settings) = s .quota + quotaSum settings
 
 -- tenant 0 to 15, and a cell with its name, edition and keys
-unfoldable pub isRecord : Held → Bool
-isRecord r = isTenant (tenantOf r) && isHeld (named (nameOf r) r)
+unfoldable pub isRecord : BookRecord → Bool
+isRecord r = isTenant (tenantOf r) && isHeld (cellIn r)
 
 -- each record is so, and they rise strictly by tenant and then by name
-unfoldable pub areRecords : List Held → Bool
+unfoldable pub areRecords : List BookRecord → Bool
 areRecords [] = true
-areRecords (r ∷ records) = isRecord r && startsAbove (r .name) records && areRecords records
+areRecords (r ∷ records) = isRecord r && startsAbove (full r) records && areRecords records
 
 -- no tenant holds more than its quota; the settings are those of tenant t and the following
-unfoldable pub withinQuotas : ℕ → List Setting → List Held → Bool
+unfoldable pub withinQuotas : ℕ → List Setting → List BookRecord → Bool
 withinQuotas t [] records = true
 withinQuotas t (s ∷ settings) records = leb (length (cellsOf t records)) (s .quota) && withinQuotas (suc t) settings records
 

@@ -7,6 +7,7 @@ use Rattle.tenants.specs.declared.Setting.{Setting}
 use Rattle.tenants.proofs.Ranges.{tenant-is, tenant-not}
 use Rattle.book.proofs.AnswerRules.{checking-outside, checking-line}
 use Rattle.book.proofs.OwnFound.{own-setting}
+use Rattle.book.proofs.LineWritten.{set-days}
 use Rattle.book.proofs.asking.check_by.Statement.{statement}
 use Rattle.book.proofs.asking.check_by.Tie as tie
 
@@ -26,7 +27,9 @@ returns-2 c =
     c .read-line .ensures
     ∙ ap (λ (x : Setting). readLine (args .hw) (args .today) (x .days) (args .line .now)) (c .before .setting-of .ensures)
     ∙ sym (checking-line (args .tenant) (args .hw) (args .today) (args .line .now) _ _ (tenant-is _ (known .if1 .left))
-    (own-setting (args .book .now) (args .tenant) (known .if1 .left)))
+    (own-setting (args .book .now) (args .tenant) (known .if1 .left))
+    (rw (own-setting (args .book .now) (args .tenant) (known .if1 .left)) at
+    (set-days (args .book .now) (args .tenant) (known .before .before .before .pre) (tenant-is _ (known .if1 .left)))))
 
 pub check-by-spec : {M : Type 1} → statement M
 check-by-spec = tie.close (tie.spec returns setting-of-requires read-line-requires returns-2)

@@ -1,18 +1,23 @@
 -- `book::asking::issue_from` meets its contract: the refusals that come before the line.
 -- Assumes nothing.
 use mathlib.Core.Path.{_≡_, sym, ap, _∙_}
-use mathlib.Core.Bool.{true}
+use mathlib.Core.Bool.{true, _&&_}
 use borrow.Author.Needs.{needs}
-use borrow.Author.Tests.{not-true, not-false, le-leb, lt-leb}
+use borrow.Author.Tests.{not-true, not-false, leb-true, le-leb, lt-leb}
+use lib.Dec.{leb}
 use lib.ListN.{length}
+use Rattle.text.proofs.Every.{and-first, and-second}
+use Rattle.dates.specs.Calendar.{isDate}
+use Rattle.permit.specs.Identifiers.{isCellName}
 use Rattle.permit.specs.Register.{isRegister}
 use Rattle.permit.specs.declared.user_permit.UserPermit.{UserPermit}
 use Rattle.permit.proofs.Outputs.{refused}
 use Rattle.tenants.specs.Cells.{cellOf}
-use Rattle.tenants.specs.Rules.{lineFor}
 use Rattle.tenants.proofs.Ranges.{tenant-is, tenant-not}
+use Rattle.book.specs.Issuing.{lineWritten}
 use Rattle.book.specs.OnBook.{ownIn}
 use Rattle.book.proofs.AnswerRules.{answered-same, issuing-register-damaged, issuing-outside, issuing-short, issuing-unfit, issuing-line}
+use Rattle.book.proofs.LineWritten.{line-written}
 use Rattle.book.proofs.asking.issue_from.Statement.{statement}
 use Rattle.book.proofs.asking.issue_from.Tie as tie
 
@@ -57,14 +62,21 @@ returns-5 c =
     let issued = c .before .before in
     let read = issued .before .before in
     let long = read .before .before .before in
-    let args = long .before .before .before .before .before .before .before .before .args in
+    let start = long .before .before .before .before .before .before .before .before in
+    let args = start .args in
     let own = ownIn (args .book .now) (args .tenant) in
+    let tenant = tenant-is _ (long .before .if2 .left) in
+    let given = sym (read .before .before .are-given .ensures) ∙ not-false _ (read .before .if4 .left) in
+    let first = and-first (isCellName (args .name) && isDate (args .expiry)) (leb (args .level) 1) given in
+    let date = and-second (isCellName (args .name)) (isDate (args .expiry)) first in
+    let low = leb-true (args .level) 1 (and-second (isCellName (args .name) && isDate (args .expiry)) (leb (args .level) 1) given) in
     answered-same _ _ _ _ _
     (issuing-line (args .tenant) (args .register .now) (args .name) (args .expiry) (args .level) (args .permit .now) (length (args .out .now)) own
-    (registered (long .before .before)) (tenant-is _ (long .before .if2 .left)) (le-leb 76 _ (long .if3 .left))
-    (sym (read .before .before .are-given .ensures) ∙ not-false _ (read .before .if4 .left))
+    (registered (long .before .before)) tenant (le-leb 76 _ (long .if3 .left)) given
+    ∙ line-written (args .book .now) (args .tenant) (start .pre) tenant (args .expiry) (args .level) date low
+    (args .register .now) (args .permit .now) (args .name) (length (args .out .now)) (long .if3 .left)
     ∙ ap
-    (λ (ship : UserPermit). lineFor ship (cellOf (args .name) (own .cells)) (own .setting) (args .expiry) (args .level) (length (args .out .now)))
+    (λ (ship : UserPermit). lineWritten ship (cellOf (args .name) (own .cells)) (own .setting) (args .expiry) (args .level) (length (args .out .now)))
     (sym (read .read-user-permit .ensures)))
     (issued .issue-for .ensures)
 

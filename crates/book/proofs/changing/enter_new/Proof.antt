@@ -7,8 +7,8 @@ use native.Mathlib.Omega.{arith}
 use borrow.Author.Needs.{needs}
 use lib.ListN.{length}
 use Rattle.tenants.specs.declared.Held.{Held}
+use Rattle.tenants.specs.Together.{inBook}
 use Rattle.tenants.specs.declared.Setting.{Setting}
-use Rattle.tenants.proofs.OwnCells.{inBook}
 use Rattle.tenants.proofs.Ranges.{held-fits}
 use Rattle.layout.specs.Layout.{settingAt, recordCount}
 use Rattle.layout.proofs.Frame.{book-frame}

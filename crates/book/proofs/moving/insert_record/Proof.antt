@@ -1,12 +1,12 @@
 -- `book::moving::insert_record` meets its contract: a gap, the record in it, and the used length.
 -- Assumes nothing.
 use mathlib.Core.Path.{ap, _∙_}
+use Rattle.tenants.specs.Together.{inBook}
 use mathlib.Core.List.{List}
 use Prim.Native.Nat.{ℕ, suc}
 use native.Mathlib.Numerals.{add-one}
 use borrow.Author.Needs.{needs}
 use Rattle.text.specs.Texts.{placed}
-use Rattle.tenants.proofs.OwnCells.{inBook}
 use Rattle.layout.specs.Layout.{recordBytes, recordPlace}
 use Rattle.book.specs.Moves.{usedPut}
 use Rattle.book.proofs.moving.insert_record.Statement.{statement}

@@ -1,0 +1,203 @@
+-- What a done call did: the tenant's own calls afterwards give the entered cell, nothing of a withdrawn name, the new days, and else what they gave.
+-- Assumes nothing.
+use mathlib.Core.Path.{_≡_, refl, sym, ap, ap₂, _∙_}
+use mathlib.Core.Bool.{Bool, true, false}
+use mathlib.Core.List.{List}
+use mathlib.Core.Option.{Option, none, some}
+use Prim.Native.Nat.{ℕ}
+use native.Mathlib.Omega.{arith}
+use borrow.Author.Tests.{le-leb}
+use Rattle.permit.specs.Order.{demand}
+use Rattle.permit.specs.Identifiers.{isCellName}
+use Rattle.permit.specs.UserPermit.{readPermit}
+use Rattle.tenants.specs.declared.Held.{Held}
+use Rattle.tenants.specs.declared.Setting.{Setting}
+use Rattle.tenants.specs.Cells.{withdrawn, cellOf}
+use Rattle.tenants.specs.Rules.{
+  Own,
+  Change,
+  enters,
+  withdraws,
+  sets,
+  refuses,
+  changeNumber,
+  isTenant,
+  isDays,
+  isHeld,
+  isSome,
+  entering,
+  withdrawing,
+  settingDays,
+  editionOf,
+  asking,
+  lineFor,
+  issuing,
+}
+use Rattle.tenants.specs.Calls.{Call, enter, withdraw, setDays, changeOf}
+use Rattle.tenants.specs.Alone.{after}
+use Rattle.tenants.specs.Together.{ownOf, cellsOf, isGood}
+use Rattle.tenants.proofs.Ranges.{held-fits}
+use Rattle.tenants.proofs.Allowed.{hasRoom}
+use Rattle.tenants.proofs.Apart.{own-after}
+use Rattle.tenants.proofs.OneList.{held-as-entered, others-after-entering, not-held-afterwards, others-after-withdrawing}
+use Rattle.layout.specs.Layout.{bookOf, isBook}
+use Rattle.layout.proofs.Promises.{undamaged-says}
+use Rattle.book.specs.OnBook.{ownIn, entry, withdrawal, newDays, bookAfter, editionIn, issuedFrom}
+use Rattle.book.specs.DoneCalls.{
+  enteredBook,
+  withdrawnBook,
+  GivesTheSame,
+  GoodOrder,
+  GivesCell,
+  GivesNothing,
+  EnterDone,
+  WithdrawDone,
+  DaysDone,
+}
+use Rattle.book.proofs.Undamaged.{good, still-undamaged, book-after}
+use Rattle.book.proofs.Issues.{issued-line, issued-reads-back}
+
+-- what is done was not refused
+not-refused : (test : Bool) (n : ℕ) (next : Change) → (n ≡ 0 → ⊥) → changeNumber (demand test (refuses n) next) ≡ 0
+    → (test ≡ true) × (changeNumber next ≡ 0)
+not-refused true n next other done = (refl, done)
+not-refused false n next other done = absurd (other done)
+
+-- what is the tenant's own after a call on an undamaged book
+own-then : (s : List ℕ) (t : ℕ) (call : Call) → isBook s ≡ true → ownIn (bookAfter t call s) t ≡ after (changeOf t call (ownIn s t)) (ownIn s t)
+own-then s t call undamaged = ap (ownOf t) (book-after s t call undamaged) ∙ own-after t call (bookOf s) (good s undamaged)
+
+-- two undamaged books in which tenant t has one setting and the same under a name
+module _ (s s′ : List ℕ) (t name : ℕ) (undamaged : isBook s ≡ true) (undamaged′ : isBook s′ ≡ true)
+    (setting : ownIn s′ t .setting ≡ ownIn s t .setting) (same : cellOf name (ownIn s′ t .cells) ≡ cellOf name (ownIn s t .cells)) where
+  gives-the-same : GivesTheSame s s′ t name
+  unfolding editionIn asking issuedFrom issuing
+  gives-the-same = record {
+    asked = rw (undamaged, undamaged′, same) refl;
+    issued = λ register permit expiry level room. rw (undamaged, undamaged′, same, setting) refl;
+  }
+
+-- a name that gives tenant t a cell which it holds
+module _ (s : List ℕ) (t : ℕ) (cell : Held) (undamaged : isBook s ≡ true) (tenant : isTenant t ≡ true) (is-name : isCellName (cell .name) ≡ true)
+    (found : cellOf (cell .name) (ownIn s t .cells) ≡ some cell) where
+  gives-cell : GivesCell s t (ownIn s t .setting) cell
+  unfolding editionIn asking
+  gives-cell = record {
+    asked = rw (undamaged, tenant, is-name, found);
+    issued = λ register permit expiry level room hw m order.
+        issued-line s register permit t (cell .name) expiry level room hw m cell undamaged tenant (order .registered) (order .ship) found
+        (order .date) (order .low) (order .roomy);
+    checked = λ register permit expiry level room hw m today order date.
+        issued-reads-back s register permit t (cell .name) expiry level room hw m today cell undamaged tenant (order .registered) (order .ship) found
+        (order .date) (order .low) (order .roomy) date .1 .1;
+  }
+
+-- a name that tenant t does not hold
+module _ (s : List ℕ) (t name : ℕ) (undamaged : isBook s ≡ true) (tenant : isTenant t ≡ true) (is-name : isCellName name ≡ true)
+    (absent : cellOf name (ownIn s t .cells) ≡ none) where
+  gives-nothing : GivesNothing s t name
+  unfolding editionIn asking issuedFrom issuing
+  gives-nothing = record {
+    asked = rw (undamaged, tenant, is-name, absent);
+    issued = λ register permit expiry level room hw m order.
+        rw (undamaged, order .registered, tenant, le-leb 76 room (order .roomy), is-name, order .date, le-leb level 1 (order .low), order .ship, absent);
+  }
+
+-- entering
+module _ (s : List ℕ) (t : ℕ) (cell : Held) (done : changeNumber (entry s t cell) ≡ 0) where
+  abbrev then : List ℕ
+  then = enteredBook s t cell
+
+  passed : (isBook s ≡ true) × (changeNumber (entering t cell (ownIn s t)) ≡ 0)
+  unfolding entry
+  passed = not-refused (isBook s) 101 (entering t cell (ownIn s t)) (λ e. omega arith) done
+
+  entered-so : (isTenant t ≡ true) × ((isHeld cell ≡ true) × (entering t cell (ownIn s t) ≡ enters cell))
+  unfolding entering
+  entered-so =
+      let one = not-refused (isTenant t) 102 _ (λ e. omega arith) (passed .1) in
+      let two = not-refused (isHeld cell) 103 _ (λ e. omega arith) (one .1) in
+      let three = not-refused (hasRoom cell (ownIn s t)) 105 (enters cell) (λ e. omega arith) (two .1) in
+      (one .0, (two .0, rw (one .0, two .0, three .0) refl))
+
+  own-entered : ownIn then t ≡ after (enters cell) (ownIn s t)
+  own-entered = own-then s t (enter cell) (passed .0) ∙ ap (λ (c : Change). after c (ownIn s t)) (entered-so .1 .1)
+
+  setting-kept : ownIn then t .setting ≡ ownIn s t .setting
+  setting-kept = ap (λ (o : Own). o .setting) own-entered
+
+  undamaged-then : isBook then ≡ true
+  undamaged-then = still-undamaged s t (enter cell) (passed .0)
+
+  enter-gives : GivesCell then t (ownIn s t .setting) cell
+  enter-gives =
+      rw setting-kept at
+      (gives-cell then t cell undamaged-then (entered-so .0) (held-fits cell (entered-so .1 .0) .name)
+      (ap (λ (o : Own). cellOf (cell .name) (o .cells)) own-entered ∙ held-as-entered cell (ownIn s t .cells)))
+
+  enter-leaves : (name : ℕ) → (name ≡ cell .name → ⊥) → GivesTheSame s then t name
+  enter-leaves name other =
+      gives-the-same s then t name (passed .0) undamaged-then setting-kept
+      (ap (λ (o : Own). cellOf name (o .cells)) own-entered ∙ others-after-entering cell (ownIn s t .cells) name other)
+
+pub enter-done : EnterDone
+enter-done s t cell done = (enter-gives s t cell done, (enter-leaves s t cell done, setting-kept s t cell done))
+
+-- withdrawing
+module _ (s : List ℕ) (t name : ℕ) (done : changeNumber (withdrawal s t name) ≡ 0) where
+  abbrev left : List ℕ
+  left = withdrawnBook s t name
+
+  was : (isBook s ≡ true) × (changeNumber (withdrawing t name (ownIn s t)) ≡ 0)
+  unfolding withdrawal
+  was = not-refused (isBook s) 101 (withdrawing t name (ownIn s t)) (λ e. omega arith) done
+
+  withdrawn-so : (isTenant t ≡ true) × ((isCellName name ≡ true) × (withdrawing t name (ownIn s t) ≡ withdraws name))
+  unfolding withdrawing
+  withdrawn-so =
+      let one = not-refused (isTenant t) 102 _ (λ e. omega arith) (was .1) in
+      let two = not-refused (isCellName name) 103 _ (λ e. omega arith) (one .1) in
+      let three = not-refused (isSome (cellOf name (ownIn s t .cells))) 104 (withdraws name) (λ e. omega arith) (two .1) in
+      (one .0, (two .0, rw (one .0, two .0, three .0) refl))
+
+  own-left : ownIn left t ≡ after (withdraws name) (ownIn s t)
+  own-left = own-then s t (withdraw name) (was .0) ∙ ap (λ (c : Change). after c (ownIn s t)) (withdrawn-so .1 .1)
+
+  setting-left : ownIn left t .setting ≡ ownIn s t .setting
+  setting-left = ap (λ (o : Own). o .setting) own-left
+
+  undamaged-left : isBook left ≡ true
+  undamaged-left = still-undamaged s t (withdraw name) (was .0)
+
+  not-there : cellOf name (withdrawn name (ownIn s t .cells)) ≡ none
+  unfolding ownOf
+  not-there = not-held-afterwards (bookOf s) t name (undamaged-says s (was .0) .0)
+
+  withdraw-gives : GivesNothing left t name
+  withdraw-gives =
+      gives-nothing left t name undamaged-left (withdrawn-so .0) (withdrawn-so .1 .0)
+      (ap (λ (o : Own). cellOf name (o .cells)) own-left ∙ not-there)
+
+  withdraw-leaves : (other : ℕ) → (other ≡ name → ⊥) → GivesTheSame s left t other
+  withdraw-leaves other apart =
+      gives-the-same s left t other (was .0) undamaged-left setting-left
+      (ap (λ (o : Own). cellOf other (o .cells)) own-left ∙ others-after-withdrawing (ownIn s t .cells) name other apart)
+
+pub withdraw-done : WithdrawDone
+withdraw-done s t name done = (withdraw-gives s t name done, (withdraw-leaves s t name done, setting-left s t name done))
+
+-- setting days
+pub days-done : DaysDone
+unfolding newDays settingDays
+days-done s t days done =
+    let one = not-refused (isBook s) 101 _ (λ e. omega arith) done in
+    let two = not-refused (isTenant t) 102 _ (λ e. omega arith) (one .1) in
+    let three = not-refused (isDays days) 103 (sets days) (λ e. omega arith) (two .1) in
+    let how : settingDays t days (ownIn s t) ≡ sets days = rw (two .0, three .0) refl in
+    let own = own-then s t (setDays days) (one .0) ∙ ap (λ (c : Change). after c (ownIn s t)) how in (
+      ap (λ (o : Own). o .setting .days) own,
+      (
+        ap (λ (o : Own). o .setting .quota) own,
+        (ap (λ (o : Own). o .setting .server) own, ap (λ (o : Own). o .cells) own),
+      ),
+    )

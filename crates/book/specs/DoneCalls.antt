@@ -1,0 +1,82 @@
+-- What the book promises of a call that is done: what the tenant's own calls answer afterwards.
+use mathlib.Core.Path.{_≡_}
+use mathlib.Core.Bool.{true}
+use mathlib.Core.List.{List, _++_}
+use Prim.Native.Nat.{ℕ, _≤_}
+use Rattle.dates.specs.Calendar.{isDate}
+use Rattle.permit.specs.Register.{isRegister}
+use Rattle.permit.specs.UserPermit.{readPermit}
+use Rattle.permit.specs.CellPermit.{shipWords, lineOf, lineEnd}
+use Rattle.permit.specs.ReadBack.{recordFor}
+use Rattle.permit.specs.Output.{text, refusal}
+use Rattle.permit.specs.declared.user_permit.UserPermit.the-variants.{Ship}
+use Rattle.tenants.specs.declared.Held.{Held}
+use Rattle.tenants.specs.declared.Setting.{Setting}
+use Rattle.tenants.specs.declared.Asked.the-variants.{Edition, Refused}
+use Rattle.tenants.specs.Rules.{lineCell, changeNumber}
+use Rattle.book.specs.OnBook.{ownIn, entry, withdrawal, newDays, bytesAfter, editionIn, issuedFrom, checkedBy}
+
+-- the book after entering, after withdrawing, after new days
+abbrev pub enteredBook : List ℕ → ℕ → Held → List ℕ
+enteredBook s t cell = bytesAfter t (entry s t cell) s
+
+abbrev pub withdrawnBook : List ℕ → ℕ → ℕ → List ℕ
+withdrawnBook s t name = bytesAfter t (withdrawal s t name) s
+
+abbrev pub daysBook : List ℕ → ℕ → ℕ → List ℕ
+daysBook s t days = bytesAfter t (newDays s t days) s
+
+-- a name gives tenant t the same in both books: its edition, and whatever is issued of it
+pub record GivesTheSame (s after : List ℕ) (t name : ℕ) : Type 0 where
+  pub asked : editionIn after t name ≡ editionIn s t name
+  pub issued : (register permit : List ℕ) (expiry level room : ℕ)
+      → issuedFrom after register t name expiry level permit room ≡ issuedFrom s register t name expiry level permit room
+
+-- what is handed in to issue is good: the register, the user permit of a ship, the expiry, the level and the room
+pub record GoodOrder (register permit : List ℕ) (expiry level room hw m : ℕ) : Type 0 where
+  pub registered : isRegister register ≡ true
+  pub ship : readPermit register permit ≡ Ship hw m
+  pub date : isDate expiry ≡ true
+  pub low : level ≤ 1
+  pub roomy : 76 ≤ room
+
+-- a name gives tenant t this cell: its edition when asked, its line when issued, and its keys when that line is checked
+pub record GivesCell (s : List ℕ) (t : ℕ) (setting : Setting) (cell : Held) : Type 0 where
+  pub asked : editionIn s t (cell .name) ≡ Edition (cell .edition)
+  pub issued : (register permit : List ℕ) (expiry level room hw m : ℕ) → GoodOrder register permit expiry level room hw m
+      → issuedFrom s register t (cell .name) expiry level permit room
+      ≡ text (lineOf (shipWords hw) (lineCell setting cell expiry level) ++ lineEnd)
+  pub checked : (register permit : List ℕ) (expiry level room hw m today : ℕ) → GoodOrder register permit expiry level room hw m → isDate today ≡ true
+      → checkedBy s t hw today (lineOf (shipWords hw) (lineCell setting cell expiry level))
+      ≡ recordFor today (setting .days) (lineCell setting cell expiry level)
+
+-- a name gives tenant t nothing: it is not held
+pub record GivesNothing (s : List ℕ) (t name : ℕ) : Type 0 where
+  pub asked : editionIn s t name ≡ Refused 104
+  pub issued : (register permit : List ℕ) (expiry level room hw m : ℕ) → GoodOrder register permit expiry level room hw m
+      → issuedFrom s register t name expiry level permit room ≡ refusal 104
+
+-- after a done enter the name gives exactly that cell, every other name what it gave, and the setting is as it was
+abbrev pub EnterDone : Type 0
+EnterDone =
+    (s : List ℕ) (t : ℕ) (cell : Held) → changeNumber (entry s t cell) ≡ 0
+    → GivesCell (enteredBook s t cell) t (ownIn s t .setting) cell
+    × (((name : ℕ) → (name ≡ cell .name → ⊥) → GivesTheSame s (enteredBook s t cell) t name)
+    × (ownIn (enteredBook s t cell) t .setting ≡ ownIn s t .setting))
+
+-- after a done withdraw the name is not held, every other name gives what it gave, and the setting is as it was
+abbrev pub WithdrawDone : Type 0
+WithdrawDone =
+    (s : List ℕ) (t name : ℕ) → changeNumber (withdrawal s t name) ≡ 0
+    → GivesNothing (withdrawnBook s t name) t name
+    × (((other : ℕ) → (other ≡ name → ⊥) → GivesTheSame s (withdrawnBook s t name) t other)
+    × (ownIn (withdrawnBook s t name) t .setting ≡ ownIn s t .setting))
+
+-- after days are set the setting has them and is else the same, and so are the cells
+abbrev pub DaysDone : Type 0
+DaysDone =
+    (s : List ℕ) (t days : ℕ) → changeNumber (newDays s t days) ≡ 0
+    → (ownIn (daysBook s t days) t .setting .days ≡ days)
+    × ((ownIn (daysBook s t days) t .setting .quota ≡ ownIn s t .setting .quota)
+    × ((ownIn (daysBook s t days) t .setting .server ≡ ownIn s t .setting .server)
+    × (ownIn (daysBook s t days) t .cells ≡ ownIn s t .cells)))
