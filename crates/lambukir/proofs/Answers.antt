@@ -11,7 +11,6 @@ use Rattle.lambukir.specs.Blocks.{underKey}
 use Rattle.permit.specs.Output as output
 use Rattle.permit.specs.Line.{lineNumber}
 use Rattle.permit.specs.declared.Written.{Written}
-use Rattle.permit.specs.declared.Written.the-variants as written
 use Rattle.permit.specs.declared.line.Line.{Line}
 use Rattle.permit.specs.declared.line.Line.the-variants as line
 use Rattle.permit.specs.declared.line.Record.{Record}
@@ -38,8 +37,7 @@ module _ (work : List ℕ → ℕ → ℕ) (key : List ℕ) (x : ℕ) where
       (sym z ∙ e)
 
 pub written-number : (a : Written) → textWritten a .number ≡ output.writtenNumber a
-written-number (written.Length n) = refl
-written-number (written.Refused n) = refl
+written-number a = refl
 
 abbrev recordRead : Record → ℕ → LineRead
 recordRead r n = record {

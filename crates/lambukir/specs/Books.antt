@@ -2,7 +2,7 @@
 use Prim.Native.Nat.{ℕ}
 use Rattle.tenants.specs.declared.Held.{Held}
 use Rattle.tenants.specs.declared.Asked.{Asked}
-use Rattle.tenants.specs.declared.Asked.the-variants as asked
+use Rattle.tenants.specs.Calls.{askedNumber, askedEdition}
 use Rattle.lambukir.specs.declared.books.EditionAsked.{EditionAsked}
 
 -- a cell that is entered
@@ -11,5 +11,4 @@ heldOf name edition key1 key2 = record { name = name; edition = edition; key1 = 
 
 -- an edition that was asked for
 abbrev pub editionAsked : Asked → EditionAsked
-editionAsked (asked.Edition e) = record { edition = e; number = 0 }
-editionAsked (asked.Refused n) = record { edition = 0; number = n }
+editionAsked a = record { edition = askedEdition a; number = askedNumber a }

@@ -1,20 +1,21 @@
 -- The answers about permit files in the form that C sees.
+use mathlib.Core.Bool.{cond}
 use Prim.Native.Nat.{ℕ}
-use Rattle.permit.specs.Line.{lineNumber}
-use Rattle.permit.specs.declared.line.Line.the-variants as line
+use Rattle.permit_file.specs.File.{openNumber, openPlace, stepNumber, stepValues, nextPlace, isEnd}
 use Rattle.permit_file.specs.declared.Opened.{Opened}
-use Rattle.permit_file.specs.declared.Opened.the-variants as opened
 use Rattle.permit_file.specs.declared.Step.{Step}
-use Rattle.permit_file.specs.declared.Step.the-variants as step
 use Rattle.lambukir.specs.declared.files.FileOpened.{FileOpened}
 use Rattle.lambukir.specs.declared.files.FileLineRead.{FileLineRead}
 
 -- a file that was opened: the place of the first line, or the refusal
 abbrev pub fileOpened : Opened → FileOpened
-fileOpened (opened.At c) = record { place = c .place; number = 0 }
-fileOpened (opened.Refused n) = record { place = 0; number = n }
+fileOpened o = record { place = openPlace o; number = openNumber o }
 
--- no record: only the next place, the number, and whether it is the end
+-- 1 at the end of the file
+abbrev pub endFlag : Step → ℕ
+endFlag s = cond (isEnd s) 1 0
+
+-- no record: only the next place, the number, and whether it is the end; for a contract inside the crate alone
 abbrev pub noRecord : ℕ → ℕ → ℕ → FileLineRead
 noRecord next number end = record {
   name = 0;
@@ -29,19 +30,17 @@ noRecord next number end = record {
   end = end;
 }
 
--- one step: a record with its notice's number, a refusal, or the end, each with the next place
+-- one step: what it hands out, its number, the place that it goes on to, and whether it is the end
 abbrev pub fileLineRead : Step → FileLineRead
-fileLineRead (step.Record r c) = record {
-  name = r .name;
-  key1 = r .key1;
-  key2 = r .key2;
-  next = c .place;
-  expiry = r .expiry;
-  level = r .level;
-  edition = r .edition;
-  server = r .server;
-  number = lineNumber (line.Record r);
-  end = 0;
+fileLineRead s = record {
+  name = stepValues s .name;
+  key1 = stepValues s .key1;
+  key2 = stepValues s .key2;
+  next = nextPlace s;
+  expiry = stepValues s .expiry;
+  level = stepValues s .level;
+  edition = stepValues s .edition;
+  server = stepValues s .server;
+  number = stepNumber s;
+  end = endFlag s;
 }
-fileLineRead (step.Refused n c) = noRecord (c .place) n 0
-fileLineRead (step.End c) = noRecord (c .place) 0 1

@@ -2,16 +2,16 @@
 use mathlib.Core.List.{List}
 use Prim.Native.Nat.{ℕ, _-_}
 use lib.ListN.{length}
+use Rattle.permit.specs.Output.{writtenNumber}
+use Rattle.permit.specs.UserPermit.{userPermitNumber}
 use Rattle.permit.specs.Line.{commentAt, lineNumber}
+use Rattle.permit.specs.Answers.{writtenLength, shipHwId, shipMId, lineValues}
 use Rattle.permit.specs.declared.Written.{Written}
-use Rattle.permit.specs.declared.Written.the-variants as written
 use Rattle.permit.specs.declared.line.Cell.{Cell}
 use Rattle.permit.specs.declared.line.Line.{Line}
-use Rattle.permit.specs.declared.line.Line.the-variants as line
 use Rattle.permit.specs.declared.line.CommentPlace.{CommentPlace}
 use Rattle.permit.specs.declared.line.CommentPlace.the-variants as place
 use Rattle.permit.specs.declared.user_permit.UserPermit.{UserPermit}
-use Rattle.permit.specs.declared.user_permit.UserPermit.the-variants as user-permit
 use Rattle.lambukir.specs.declared.permits.UserPermitRead.{UserPermitRead}
 use Rattle.lambukir.specs.declared.permits.LineRead.{LineRead}
 use Rattle.lambukir.specs.declared.permits.TextWritten.{TextWritten}
@@ -31,36 +31,24 @@ cellFrom name expiry key1 key2 level edition server = record {
 
 -- a user permit that was read
 abbrev pub userPermitRead : UserPermit → UserPermitRead
-userPermitRead (user-permit.Ship hw m) = record { hw = hw; m = m; number = 0 }
-userPermitRead (user-permit.Refused n) = record { hw = 0; m = 0; number = n }
+userPermitRead u = record { hw = shipHwId u; m = shipMId u; number = userPermitNumber u }
 
 -- a line that was read; the number of a record is that of its notice
 abbrev pub lineRead : Line → LineRead
-lineRead (line.Record r) = record {
-  name = r .name;
-  key1 = r .key1;
-  key2 = r .key2;
-  expiry = r .expiry;
-  level = r .level;
-  edition = r .edition;
-  server = r .server;
-  number = lineNumber (line.Record r);
-}
-lineRead (line.Refused n) = record {
-  name = 0;
-  key1 = 0;
-  key2 = 0;
-  expiry = 0;
-  level = 0;
-  edition = 0;
-  server = 0;
-  number = n;
+lineRead l = record {
+  name = lineValues l .name;
+  key1 = lineValues l .key1;
+  key2 = lineValues l .key2;
+  expiry = lineValues l .expiry;
+  level = lineValues l .level;
+  edition = lineValues l .edition;
+  server = lineValues l .server;
+  number = lineNumber l;
 }
 
--- a text that was written: its length, of a line with its CR LF
+-- a text that was written
 abbrev pub textWritten : Written → TextWritten
-textWritten (written.Length n) = record { length = n; number = 0 }
-textWritten (written.Refused n) = record { length = 0; number = n }
+textWritten w = record { length = writtenLength w; number = writtenNumber w }
 
 -- where the comment stands in a line of so many bytes; 0 and 0 for a line that gives 12
 abbrev pub partFrom : ℕ → CommentPlace → Part

@@ -13,8 +13,8 @@ use Rattle.permit.specs.CellPermit.{shipWords}
 use Rattle.permit.specs.Line.{givenNumber}
 use Rattle.permit.specs.declared.line.Line.{Line}
 use Rattle.permit.specs.declared.line.Line.the-variants as line
-use Rattle.permit_file.specs.File.{cursor, lineEnds, lineAt, endsAt, onward, stepBy, stepWith, stepOf}
-use Rattle.permit_file.specs.Steps.{isEnd, nextPlace, placeAfter, PlacesRise, EndStays, FileEnds}
+use Rattle.permit_file.specs.File.{cursor, lineEnds, lineAt, endsAt, onward, stepBy, stepWith, stepOf, isEnd, nextPlace}
+use Rattle.permit_file.specs.Steps.{placeAfter, PlacesRise, EndStays, FileEnds}
 use Rattle.permit_file.specs.declared.Step.the-variants.{Record, Refused, End}
 use Rattle.permit_file.proofs.Ends.{ends-with-bytes, line-between}
 use Rattle.permit_file.proofs.Lines.{begins-first, next-within}

@@ -1,5 +1,5 @@
 -- A permit file, PERMIT.TXT: its header, its lines, and reading on from a place.
-use mathlib.Core.Bool.{Bool, cond, not, _&&_, _||_}
+use mathlib.Core.Bool.{Bool, true, false, cond, not, _&&_, _||_}
 use mathlib.Core.List.{List, [], _∷_}
 use Prim.Native.Nat.{ℕ, suc, _+_}
 use lib.Dec.{leb, ltb, eqb}
@@ -9,7 +9,8 @@ use Rattle.text.specs.Texts.{part, allAt, sameText, standsAt}
 use Rattle.permit.specs.Order.{demand}
 use Rattle.permit.specs.DateText.{isDateAt}
 use Rattle.permit.specs.CellPermit.{shipWords}
-use Rattle.permit.specs.Line.{readWith, givenNumber}
+use Rattle.permit.specs.Line.{readWith, givenNumber, lineNumber}
+use Rattle.permit.specs.Answers.{LineValues, recordValues, noValues}
 use Rattle.permit.specs.declared.line.Line.{Line}
 use Rattle.permit.specs.declared.line.Line.the-variants as line
 use Rattle.permit_file.specs.declared.Cursor.{Cursor}
@@ -101,3 +102,32 @@ openOf file =
 abbrev pub openNumber : Opened → ℕ
 openNumber (opened.At c) = 0
 openNumber (opened.Refused n) = n
+
+-- its place; 0 at a refusal
+abbrev pub openPlace : Opened → ℕ
+openPlace (opened.At c) = c .place
+openPlace (opened.Refused n) = 0
+
+-- the number of a step: that of the line, and 0 for the end
+abbrev pub stepNumber : Step → ℕ
+stepNumber (Record r c) = lineNumber (line.Record r)
+stepNumber (Refused n c) = n
+stepNumber (End c) = 0
+
+-- what it hands out of a line: nothing at a refusal and at the end
+abbrev pub stepValues : Step → LineValues
+stepValues (Record r c) = recordValues r
+stepValues (Refused n c) = noValues
+stepValues (End c) = noValues
+
+-- the place that it goes on to
+abbrev pub nextPlace : Step → ℕ
+nextPlace (Record r c) = c .place
+nextPlace (Refused n c) = c .place
+nextPlace (End c) = c .place
+
+-- the step is the end
+abbrev pub isEnd : Step → Bool
+isEnd (Record r c) = false
+isEnd (Refused n c) = false
+isEnd (End c) = true

@@ -1,25 +1,12 @@
 -- What reading by steps promises: places rise until the end, which stays and is reached.
 use mathlib.Core.Path.{_≡_}
-use mathlib.Core.Bool.{Bool, true, false}
+use mathlib.Core.Bool.{true, false}
 use mathlib.Core.List.{List}
 use Prim.Native.Nat.{ℕ, zero, suc, _-_, _≤_, _<_}
 use lib.ListN.{length}
 use Rattle.permit.specs.declared.line.Line.{Line}
-use Rattle.permit_file.specs.File.{cursor, stepBy}
-use Rattle.permit_file.specs.declared.Step.{Step}
-use Rattle.permit_file.specs.declared.Step.the-variants.{Record, Refused, End}
-
--- the step is the end
-abbrev pub isEnd : Step → Bool
-isEnd (Record r c) = false
-isEnd (Refused n c) = false
-isEnd (End c) = true
-
--- the place after a step
-abbrev pub nextPlace : Step → ℕ
-nextPlace (Record r c) = c .place
-nextPlace (Refused n c) = c .place
-nextPlace (End c) = c .place
+use Rattle.permit_file.specs.File.{cursor, stepBy, nextPlace, isEnd}
+use Rattle.permit_file.specs.declared.Step.the-variants.{End}
 
 -- the place after n steps
 unfoldable pub placeAfter : (List ℕ → Line) → List ℕ → ℕ → ℕ → ℕ

@@ -1,8 +1,9 @@
 -- The numbers that stand for answers which C cannot take.
+use mathlib.Core.Bool.{cond}
 use Rattle.dates.specs.declared.DaysLeft.{DaysLeft}
 use Rattle.dates.specs.declared.DaysLeft.the-variants.{Passed, Left}
 use Rattle.text.specs.declared.numbers.Reading.{Reading}
-use Rattle.text.specs.declared.numbers.Reading.the-variants.{Number, Wrong}
+use Rattle.text.specs.Readings.{isRead, valueRead}
 use Rattle.probe.specs.declared.ProbeDaysLeft.{ProbeDaysLeft}
 use Rattle.probe.specs.declared.ProbeUnpadded.{ProbeUnpadded}
 
@@ -13,5 +14,4 @@ daysForm (Left n) = record { passed = 0; days = n }
 
 -- the number and 1, or twice 0 where the padding is wrong
 abbrev pub unpaddedForm : Reading → ProbeUnpadded
-unpaddedForm (Number x) = record { value = x; right = 1 }
-unpaddedForm Wrong = record { value = 0; right = 0 }
+unpaddedForm r = record { value = valueRead r; right = cond (isRead r) 1 0 }

@@ -8,8 +8,7 @@ use native.Mathlib.Omega.{arith}
 use lib.ListN.{length}
 use Rattle.permit.specs.declared.line.Line.{Line}
 use Rattle.permit.specs.declared.line.Line.the-variants as line
-use Rattle.permit_file.specs.File.{stepBy, firstPlace}
-use Rattle.permit_file.specs.Steps.{isEnd, nextPlace}
+use Rattle.permit_file.specs.File.{stepBy, firstPlace, isEnd, nextPlace}
 use Rattle.permit_file.specs.declared.Step.{Step}
 use Rattle.permit_file.proofs.Steps.{places-rise}
 use Rattle.permit_file.specs.declared.Step.the-variants.{Record, Refused, End}

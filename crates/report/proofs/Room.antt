@@ -24,8 +24,7 @@ use Rattle.permit.specs.CellPermit.{checkOf}
 use Rattle.permit.specs.Line.{lineNumber, readWith, checked, recordOf, keyUnder, partsOf, isLine}
 use Rattle.permit.specs.declared.line.Line.{Line}
 use Rattle.permit.specs.declared.line.Line.the-variants as line
-use Rattle.permit_file.specs.File.{cursor, stepBy, onward, lineEnds, lineAt, endsAt, firstPlace}
-use Rattle.permit_file.specs.Steps.{isEnd, nextPlace}
+use Rattle.permit_file.specs.File.{cursor, stepBy, onward, lineEnds, lineAt, endsAt, firstPlace, isEnd, nextPlace}
 use Rattle.permit_file.specs.declared.Cursor.{Cursor}
 use Rattle.permit_file.specs.declared.Step.{Step}
 use Rattle.permit_file.specs.declared.Step.the-variants.{Record, Refused, End}

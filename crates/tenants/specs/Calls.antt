@@ -31,6 +31,11 @@ abbrev pub askedNumber : Asked → ℕ
 askedNumber (asked.Edition e) = 0
 askedNumber (asked.Refused n) = n
 
+-- the edition; 0 at a refusal
+abbrev pub askedEdition : Asked → ℕ
+askedEdition (asked.Edition e) = e
+askedEdition (asked.Refused n) = 0
+
 -- the number of an answer
 abbrev pub answerNumber : Answer → ℕ
 answerNumber (number n) = n

@@ -3,5 +3,6 @@ pub mod Characters
 pub mod Places
 pub mod Texts
 pub mod Padding
+pub mod Readings
 pub mod Inverse
 pub mod NoChoice
