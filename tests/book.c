@@ -4,7 +4,7 @@
 
 #include "books.h"
 
-/* 01's P12, and a book written down by hand. */
+/* P12 of the rules, and a book written down by hand. */
 static void worked(void)
 {
     static const uint8_t expected[] = {
@@ -16,7 +16,7 @@ static void worked(void)
         0,   0,   30,  '0', '9', 0, 0, 0, 30, 'A', 'A', 0, 0, 0, 30, 'A', 'A', 0,
         0,   0,   30,  'Z', '9', 0, 0, 9, 30, '9', 'Z', 0,                        /* the last has quota 9 */
         1,   'N', 'O', '4', 'D', '0', '6', '1', '3', 3, 231,                      /* tenant, name, edition 999 */
-        193, 203, 81,  142, 156, 66, 21, 113, 204, 102, 0, 0, 0,                  /* the keys of document 001 */
+        193, 203, 81,  142, 156, 66, 21, 113, 204, 102, 0, 0, 0,                  /* the keys of S-63's worked permit */
     };
     static const uint16_t given[TENANTS] = {1, 258, [15] = 9};
     const uint64_t name = number_from("NO4D0613");

@@ -22,7 +22,7 @@
 enum { ENTER, WITHDRAW, SET_DAYS, ASK_EDITION, ISSUE, CHECK, KINDS };
 static const char *const kind_names[KINDS] = {"enter", "withdraw", "set days", "ask edition", "issue", "check"};
 
-/* 01's order of refusals of each call, ended by 0. */
+/* The rules' order of refusals of each call, ended by 0. */
 static const uint32_t orders_of[KINDS][12] = {
     [ENTER] = {101, 102, 103, 105},
     [WITHDRAW] = {101, 102, 103, 104},
@@ -217,7 +217,7 @@ static inline void spoil_register(call *c)
 }
 
 /* Spoils a call so that a number is due, of those that come neither from the book's damage nor from what it holds (101, 104, 105).
-   For two numbers at once the later one of 01's order is to be spoilt first. */
+   For two numbers at once the later one of the rules' order is to be spoilt first. */
 static inline void spoil(call *c, uint32_t number)
 {
     switch (number) {

@@ -7,12 +7,12 @@
 
 #define ROOM 256
 
-/* The worked cell permit of document 001 (10.6.2 and 11.5.4). */
+/* The worked cell permit of S-63 (10.6.2 and 11.5.4). */
 static void worked(void)
 {
     static const uint8_t line[] = "NO4D061320000830BEB9BFE3C7C6CE68B16411FD09F96982795C77B204F54D48,0,5,GB,a, b";
     const uint64_t hw_id = number_from("12348");
-    ABOUT("document 001's cell permit");
+    ABOUT("S-63's cell permit");
     lambukir_line read = compare_read_line(hw_id, 20000801, 30, line, sizeof line - 1);
     expect(read.number, 20);
     same(read.name, number_from("NO4D0613"), "%s: name", about);
@@ -28,7 +28,7 @@ static void worked(void)
     expect(compare_read_line(number_from("12347"), 20000801, 30, line, sizeof line - 1).number, 13);
 }
 
-/* 01's P1 to P5, and each side of each limit. */
+/* P1 to P5 of the rules, and each side of each limit. */
 static void notices(void)
 {
     static const struct { uint32_t today, expiry, number; } rows[] = {

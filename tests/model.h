@@ -1,4 +1,4 @@
-/* A plain model of 01's rules in C, over OpenSSL's Blowfish and zlib's CRC-32. The comparisons hold the library and the look-through
+/* A plain model of the rules in C, over OpenSSL's Blowfish and zlib's CRC-32. The comparisons hold the library and the look-through
    program against it; the benchmark measures them beside it. */
 #ifndef MODEL_H
 #define MODEL_H

@@ -30,21 +30,21 @@ static uint32_t absent_m_id(uint32_t bits)
     }
 }
 
-/* The worked values of document 001 (10.6.1 and 11.4) and of 01 (P10, P11). */
+/* The worked values of S-63 (10.6.1 and 11.4) and of the rules (P10, P11). */
 static void worked(void)
 {
     static const uint8_t one[] = "0198765", ab[] = "AB123AB", permit[] = "73871727080876A07E450C043031";
     const uint64_t hw_id = number_from("12348");
     uint8_t out[PERMIT];
-    ABOUT("document 001's user permit");
+    ABOUT("S-63's user permit");
     expect(compare_make(one, 7, hw_id, number_from("01"), PERMIT), 0);
     expect(lambukir_make_user_permit(one, 7, hw_id, number_from("01"), out, PERMIT), 0);
-    same((uint64_t)memcmp(out, permit, PERMIT), 0, "the user permit of document 001");
+    same((uint64_t)memcmp(out, permit, PERMIT), 0, "the user permit of S-63");
     lambukir_user_permit read = compare_read_permit(one, 7, permit, PERMIT);
     expect(read.number, 0);
-    same(read.hw_id, hw_id, "HW_ID of document 001");
-    same(read.m_id, 0x3031, "M_ID of document 001");
-    ABOUT("01's P10 and P11");
+    same(read.hw_id, hw_id, "HW_ID of S-63");
+    same(read.m_id, 0x3031, "M_ID of S-63");
+    ABOUT("P10 and P11 of the rules");
     expect(lambukir_make_user_permit(ab, 7, hw_id, number_from("AB"), out, PERMIT), 0);
     same((uint64_t)memcmp(out + 24, "4142", 4), 0, "M_ID AB in hex");
     expect(compare_make(one, 7, number_from("1234G"), number_from("01"), PERMIT), 18);

@@ -13,13 +13,13 @@ static given_line some_given(void)
     return (given_line){some_name(), some_key(), some_key(), some_date(), (uint32_t)random_below(2), 1 + (uint32_t)random_below(PICK(below)), some_two()};
 }
 
-/* The worked cell permit of document 001 (10.6.2), as a line. */
+/* The worked cell permit of S-63 (10.6.2), as a line. */
 static void worked(void)
 {
     static const char line[] = "NO4D061320000830BEB9BFE3C7C6CE68B16411FD09F96982795C77B204F54D48,1,5,GB,\r\n";
     uint8_t out[LONGEST_OUT];
     given_line g = {number_from("NO4D0613"), 0xC1CB518E9C, 0x421571CC66, 20000830, 1, 5, (uint32_t)number_from("GB")};
-    ABOUT("document 001's cell permit");
+    ABOUT("S-63's cell permit");
     lambukir_written written = compare_write(number_from("12348"), &g, ENOUGH, out);
     expect(written.number, 0);
     same(written.length, sizeof line - 1, "%s: length", about);

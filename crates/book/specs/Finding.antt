@@ -1,4 +1,4 @@
--- The search's words: a full name's place among the records, and whether it is held there.
+-- The search's words: a full name's place among the records, and whether it is held there. For contracts inside the crate alone.
 use mathlib.Core.Bool.{cond}
 use mathlib.Core.List.{List, [], _∷_}
 use Prim.Native.Nat.{ℕ, suc}

@@ -1,4 +1,4 @@
--- Bytes of a book moved by any size, up and down; a record put in or taken out.
+-- Bytes of a book moved by any size, up and down; a record put in or taken out: for contracts inside the crate alone.
 use mathlib.Core.List.{List, _++_}
 use Prim.Native.Nat.{ℕ, suc, _+_, _-_}
 use lib.ListN.{take, drop}

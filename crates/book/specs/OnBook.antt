@@ -1,4 +1,12 @@
 -- The tenant calls on the book's bytes: a damaged book is 101, and else the rules decide, by what is the tenant's own.
+-- One verb has a form for each layer:
+--   the call      the rule      what it does   on one list   on the bytes
+--   enter         entering      enters         entered       entry
+--   withdraw      withdrawing   withdraws      withdrawn     withdrawal
+--   setDays       settingDays   sets           withDays      newDays
+--   askEdition    asking                       editionOf     editionIn
+--   issue         issuing                      lineFor       issuedFrom
+--   check         checking                                   checkedBy
 use mathlib.Core.List.{List}
 use Prim.Native.Nat.{ℕ}
 use Rattle.permit.specs.Order.{demand}

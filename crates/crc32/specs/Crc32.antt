@@ -1,4 +1,4 @@
--- CRC-32 bit by bit (01: "reflected, polynomial EDB88320, start all ones, final complement").
+-- CRC-32 bit by bit: reflected, polynomial EDB88320, start all ones, final complement.
 use mathlib.Core.List.{List, [], _∷_}
 use Prim.Native.Nat.{ℕ, zero, suc, _-_, _*_, _/_, _%_}
 use lib.Bits.{bitXor}

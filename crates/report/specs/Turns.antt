@@ -1,4 +1,4 @@
--- The look-through line by line: its tally, and what one step puts and counts.
+-- The look-through line by line: its tally, and what one step puts and counts. For contracts inside the crate alone.
 use mathlib.Core.Bool.{Bool, cond}
 use mathlib.Core.List.{List, [], _∷_, _++_}
 use Prim.Native.Nat.{ℕ, _+_, _<_}

@@ -1,4 +1,4 @@
--- A number and its text, bytes or block undo one another: the laws over base, alphabet and width, at those of 01. Assumes nothing.
+-- A number and its text, bytes or block undo one another: the laws over base, alphabet and width, at those of the rules. Assumes nothing.
 use lib.Dec.{lit<}
 use Rattle.text.specs.Inverse.{NumberOfHexText, HexTextOfNumber, NumberOfDecimalText, DecimalTextOfNumber, NumberOfBytes, BytesOfNumber, UnpadAfterPad, PadAfterUnpad}
 use Rattle.text.proofs.Digits.{value-digits-fit, digits-value}

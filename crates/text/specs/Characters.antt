@@ -1,4 +1,4 @@
--- The alphabets of 01, what a hex character and a digit stand for, and numbers as text.
+-- The alphabets of the rules, what a hex character and a digit stand for, and numbers as text.
 use mathlib.Core.Bool.{Bool, true, cond, _&&_, _||_}
 use mathlib.Core.List.{List, [], _∷_, map}
 use Prim.Native.Nat.{ℕ, _+_, _-_}

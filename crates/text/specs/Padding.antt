@@ -1,4 +1,4 @@
--- 01's padding: "fills up to 8 bytes with the count of bytes added: 5 bytes get three 03, 4 bytes get four 04".
+-- Padding fills up to 8 bytes with the count of bytes added: 5 bytes get three 03, 4 bytes get four 04.
 use mathlib.Core.Bool.{Bool, cond}
 use mathlib.Core.List.{List, _++_}
 use Prim.Native.Nat.{ℕ, _-_, _/_, _^_}

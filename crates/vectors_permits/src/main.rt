@@ -1,4 +1,4 @@
-// Runs the worked permits of document 001 (sections 10.6, 11.4 and 11.5): HW_ID 12348, M_KEY 98765, M_ID 01. `stdout` has what they must give.
+// Runs the worked permits of S-63 (sections 10.6, 11.4 and 11.5): HW_ID 12348, M_KEY 98765, M_ID 01. `stdout` has what they must give.
 use libc::STDOUT_FILENO;
 use permit::Written;
 use permit::line::Cell;
