@@ -1,4 +1,4 @@
--- Words of 32 bits that together make pi's fraction are the starting words.
+-- Words of 32 bits that together make piFraction are the starting words; and the bits cut off below it.
 -- Assumes nothing.
 use mathlib.Core.Path.{_≡_, sym, ap, ap₂, _∙_}
 use mathlib.Core.Bool.{Bool}
@@ -12,7 +12,7 @@ use lib.Seq.{sets}
 use Rattle.text.specs.Numbers.{value, digits}
 use Rattle.text.proofs.Digits.{digits-value}
 use Rattle.text.proofs.Tables.{each, at-each}
-use Rattle.blowfish.specs.Pi.{piFraction, startWords}
+use Rattle.blowfish.specs.Pi.{series, piTimes, piFraction, guardBits, GuardBitsFar, startWords}
 use Rattle.blowfish.specs.Overlaid.{Overlaid}
 
 abbrev pub isWord : ℕ → ℕ → Bool
@@ -42,3 +42,11 @@ tables-are-pi {l} {p = p} {s₁ = s₁} {s₂ = s₂} {s₃ = s₃} {s₄ = s₄
     ∙ ap (λ (m : List ℕ). sets m 786 s₄)
     (o₄ .same ∙ ap (λ (m : List ℕ). sets m 530 s₃) (o₃ .same ∙ ap (λ (m : List ℕ). sets m 274 s₂) (o₂ .same ∙ ap (λ (m : List ℕ). sets m 18 s₁) (o₁ .same))))
     ∙ from-pi (stacked l p s₁ s₂ s₃ s₄) words long same
+
+-- the 64 bits that are cut off, computed
+guard-bits : guardBits ≡ 0xb83acb0220023ba8
+unfolding series piTimes guardBits
+guard-bits = eqb→eq guardBits 0xb83acb0220023ba8 tt
+
+pub guard-bits-far : GuardBitsFar
+guard-bits-far = (omega (arith, guard-bits), omega (arith, guard-bits))

@@ -1,4 +1,4 @@
-// The starting P and S1 to S4. No reader has to trust the numbers: they are proved to be the first bits of pi's fraction.
+// The starting P and S1 to S4. No reader has to trust the numbers: they are proved to equal what specs/Pi.antt works out.
 ghost use mathlib.Core.Path.{_≡_};
 ghost use Prim.Native.Nat.{_+_, _≤_};
 ghost use lib.ListN.{length};

@@ -1,4 +1,4 @@
--- `blowfish::start::start` meets its contract: the five tables, one after the other, make pi's fraction by one computed test.
+-- `blowfish::start::start` meets its contract: the five tables, one after the other, make piFraction by one computed test.
 use mathlib.Core.Path.{refl}
 use Rattle.text.specs.Numbers.{value}
 use Rattle.blowfish.specs.Pi.{series, piTimes, piFraction}
