@@ -1,4 +1,4 @@
--- Blowfish on one block (01, "Cipher and checksum"). The words of a key stand in one list: P1 to P18, then S1, S2, S3 and S4 of 256 each.
+-- Blowfish on one block. The words of a key stand in one list: P1 to P18, then S1, S2, S3 and S4 of 256 each.
 use mathlib.Core.List.{List}
 use Prim.Native.Nat.{ℕ, zero, suc, _+_, _-_, _*_, _/_, _%_, _^_}
 use lib.Bits.{bitXor}

@@ -1,4 +1,4 @@
--- The words of a key (01, "Cipher and checksum").
+-- The words of a key.
 use mathlib.Core.Bool.{Bool, cond, _&&_}
 use mathlib.Core.List.{List}
 use Prim.Native.Nat.{ℕ, zero, suc, _+_, _*_, _/_, _%_, _^_}

@@ -8,7 +8,7 @@ ghost use Rattle.blowfish.specs.Schedule.{keyWord, keyed, filled, keyNum
 
 mod start;
 
-// 01's F.
+// Blowfish's F.
 fn round_function(words: &[u32; 1042], x: u32) -> u32
     ensures { λ r. ⌜ r ≡ F (now (words .entry)) x ⌝ }
 {
