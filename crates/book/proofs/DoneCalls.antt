@@ -55,7 +55,7 @@ use Rattle.book.specs.DoneCalls.{
   DaysDone,
 }
 use Rattle.book.proofs.Undamaged.{good, still-undamaged, book-after}
-use Rattle.book.proofs.Issues.{issued-line, issued-reads-back}
+use Rattle.book.proofs.Issues.{issued-line, line-checked}
 
 -- what is done was not refused
 not-refused : (test : Bool) (n : ℕ) (next : Change) → (n ≡ 0 → ⊥) → changeNumber (demand test (refuses n) next) ≡ 0
@@ -87,9 +87,7 @@ module _ (s : List ℕ) (t : ℕ) (cell : Held) (undamaged : isBook s ≡ true) 
     issued = λ register permit expiry level room hw m order.
         issued-line s register permit t (cell .name) expiry level room hw m cell undamaged tenant (order .registered) (order .ship) found
         (order .date) (order .low) (order .roomy);
-    checked = λ register permit expiry level room hw m today order date.
-        issued-reads-back s register permit t (cell .name) expiry level room hw m today cell undamaged tenant (order .registered) (order .ship) found
-        (order .date) (order .low) (order .roomy) date .1 .1;
+    checked = λ expiry level hw today date low form now. line-checked s t (cell .name) expiry level hw today cell undamaged tenant found date low form now;
   }
 
 -- a name that tenant t does not hold

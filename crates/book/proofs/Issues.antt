@@ -5,6 +5,7 @@ use mathlib.Core.Bool.{true}
 use mathlib.Core.List.{List, _++_}
 use mathlib.Core.Option.{some}
 use Prim.Native.Nat.{ℕ, _≤_}
+use native.Mathlib.Omega.{arith}
 use borrow.Author.Tests.{le-leb}
 use Rattle.dates.specs.Calendar.{isDate}
 use Rattle.permit.specs.Identifiers.{isHwId, isCellName}
@@ -12,6 +13,7 @@ use Rattle.permit.specs.Register.{isRegister}
 use Rattle.permit.specs.UserPermit.{readPermit}
 use Rattle.permit.specs.CellPermit.{shipWords, lineOf, lineEnd}
 use Rattle.permit.specs.Line.{givenNumber, readWith, readLine}
+use Rattle.permit.specs.ReadBack.{recordFor}
 use Rattle.permit.specs.Output.{text}
 use Rattle.permit.specs.declared.user_permit.UserPermit.the-variants.{Ship}
 use Rattle.permit.proofs.ShipRead.{ship-form}
@@ -40,27 +42,32 @@ module _ (hw today days : ℕ) (form : isHwId hw ≡ true) (date : isDate today 
 module _ (s register permit : List ℕ) (t name expiry level room hw m : ℕ) (cell : Held) (undamaged : isBook s ≡ true) (tenant : isTenant t ≡ true)
     (registered : isRegister register ≡ true) (ship : readPermit register permit ≡ Ship hw m) (found : cellOf name (ownIn s t .cells) ≡ some cell)
     (date : isDate expiry ≡ true) (low : level ≤ 1) (roomy : 76 ≤ room) where
-  same-name : cell .name ≡ name
-  same-name = found-name name (ownIn s t .cells) cell found
-
   pub issued-line : issuedFrom s register t name expiry level permit room
       ≡ text (lineOf (shipWords hw) (lineCell (ownIn s t .setting) cell expiry level) ++ lineEnd)
   unfolding issuedFrom issuing
   issued-line =
-      let is-name : isCellName name ≡ true = ap isCellName (sym same-name) ∙ fits s t undamaged tenant name cell found .name in
+      let is-name : isCellName name ≡ true = ap isCellName (sym (found-name name (ownIn s t .cells) cell found)) ∙ fits s t undamaged tenant name cell found .name in
       rw (undamaged, registered, tenant, le-leb 76 room roomy, is-name, date, le-leb level 1 low, ship, found) refl
 
-pub issued-reads-back : IssuedReadsBack
+-- what the tenant's own check answers to it
+pub line-checked : (s : List ℕ) (t name expiry level hw today : ℕ) (cell : Held) → isBook s ≡ true → isTenant t ≡ true
+    → cellOf name (ownIn s t .cells) ≡ some cell → isDate expiry ≡ true → level ≤ 1 → isHwId hw ≡ true → isDate today ≡ true
+    → checkedBy s t hw today (lineOf (shipWords hw) (lineCell (ownIn s t .setting) cell expiry level))
+    ≡ recordFor today (ownIn s t .setting .days) (lineCell (ownIn s t .setting) cell expiry level)
 unfolding checkedBy checking
-issued-reads-back s register permit t name expiry level room hw m today cell undamaged tenant registered ship found date low roomy now =
+line-checked s t name expiry level hw today cell undamaged tenant found date low form now =
     let setting : Setting = ownIn s t .setting in
     let days : isDays (setting .days) ≡ true = set-days s t undamaged tenant in
-    let form : isHwId hw ≡ true = ship-form hw m register permit ship in
-    let back = line-reads-back hw today (setting .days) room (lineCell setting cell expiry level)
-    (cell-good s t undamaged tenant expiry level date low name cell found) (given-zero hw today (setting .days) form now days) roomy in (
-      same-name s register permit t name expiry level room hw m cell undamaged tenant registered ship found date low roomy,
-      (
-        issued-line s register permit t name expiry level room hw m cell undamaged tenant registered ship found date low roomy,
-        rw (undamaged, tenant, form, now) (sym (read-so hw today (setting .days) form now days _) ∙ back .1 .1),
-      ),
-    )
+    rw (undamaged, tenant, form, now)
+    (sym (read-so hw today (setting .days) form now days _)
+    ∙ line-reads-back hw today (setting .days) 76 (lineCell setting cell expiry level)
+    (cell-good s t undamaged tenant expiry level date low name cell found) (given-zero hw today (setting .days) form now days) (omega arith) .1 .1)
+
+pub issued-reads-back : IssuedReadsBack
+issued-reads-back s register permit t name expiry level room hw m today cell undamaged tenant registered ship found date low roomy now = (
+  found-name name (ownIn s t .cells) cell found,
+  (
+    issued-line s register permit t name expiry level room hw m cell undamaged tenant registered ship found date low roomy,
+    line-checked s t name expiry level hw today cell undamaged tenant found date low (ship-form hw m register permit ship) now,
+  ),
+)

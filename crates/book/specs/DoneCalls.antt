@@ -4,6 +4,7 @@ use mathlib.Core.Bool.{true}
 use mathlib.Core.List.{List, _++_}
 use Prim.Native.Nat.{ℕ, _≤_}
 use Rattle.dates.specs.Calendar.{isDate}
+use Rattle.permit.specs.Identifiers.{isHwId}
 use Rattle.permit.specs.Register.{isRegister}
 use Rattle.permit.specs.UserPermit.{readPermit}
 use Rattle.permit.specs.CellPermit.{shipWords, lineOf, lineEnd}
@@ -46,7 +47,7 @@ pub record GivesCell (s : List ℕ) (t : ℕ) (setting : Setting) (cell : Held) 
   pub issued : (register permit : List ℕ) (expiry level room hw m : ℕ) → GoodOrder register permit expiry level room hw m
       → issuedFrom s register t (cell .name) expiry level permit room
       ≡ text (lineOf (shipWords hw) (lineCell setting cell expiry level) ++ lineEnd)
-  pub checked : (register permit : List ℕ) (expiry level room hw m today : ℕ) → GoodOrder register permit expiry level room hw m → isDate today ≡ true
+  pub checked : (expiry level hw today : ℕ) → isDate expiry ≡ true → level ≤ 1 → isHwId hw ≡ true → isDate today ≡ true
       → checkedBy s t hw today (lineOf (shipWords hw) (lineCell setting cell expiry level))
       ≡ recordFor today (setting .days) (lineCell setting cell expiry level)
 
