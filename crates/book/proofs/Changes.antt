@@ -14,7 +14,7 @@ use Rattle.tenants.specs.declared.Setting.{Setting}
 use Rattle.tenants.specs.Cells.{entered, withdrawn}
 use Rattle.tenants.specs.Alone.{withDays}
 use Rattle.tenants.specs.Rules.{enters, withdraws, sets}
-use Rattle.tenants.specs.Together.{inBook, BookRecord, fullName, named, noSetting, changed}
+use Rattle.tenants.specs.Together.{inBook, BookRecord, fullName, noSetting, changed}
 use Rattle.tenants.proofs.Ordered.{entered-first, entered-same, entered-behind, withdrawn-same, withdrawn-other}
 use Rattle.tenants.proofs.Goodness.{Good}
 use Rattle.layout.specs.Layout.{recordBytes, bookBytes, settingPlace, recordPlace, recordCount, bookOf, isBook}

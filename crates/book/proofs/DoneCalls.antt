@@ -1,41 +1,20 @@
 -- What a done call did: the tenant's own calls afterwards give the entered cell, nothing of a withdrawn name, the new days, and else what they gave.
 -- Assumes nothing.
-use mathlib.Core.Path.{_≡_, refl, sym, ap, ap₂, _∙_}
+use mathlib.Core.Path.{_≡_, refl, ap, _∙_}
 use mathlib.Core.Bool.{Bool, true, false}
 use mathlib.Core.List.{List}
-use mathlib.Core.Option.{Option, none, some}
+use mathlib.Core.Option.{none, some}
 use Prim.Native.Nat.{ℕ}
 use native.Mathlib.Omega.{arith}
 use borrow.Author.Tests.{le-leb}
 use Rattle.permit.specs.Order.{demand}
 use Rattle.permit.specs.Identifiers.{isCellName}
-use Rattle.permit.specs.UserPermit.{readPermit}
 use Rattle.tenants.specs.declared.Held.{Held}
-use Rattle.tenants.specs.declared.Setting.{Setting}
 use Rattle.tenants.specs.Cells.{withdrawn, cellOf}
-use Rattle.tenants.specs.Rules.{
-  Own,
-  Change,
-  enters,
-  withdraws,
-  sets,
-  refuses,
-  changeNumber,
-  isTenant,
-  isDays,
-  isHeld,
-  isSome,
-  entering,
-  withdrawing,
-  settingDays,
-  editionOf,
-  asking,
-  lineFor,
-  issuing,
-}
+use Rattle.tenants.specs.Rules.{Own, Change, enters, withdraws, sets, refuses, changeNumber, isTenant, isDays, isHeld, isSome, entering, withdrawing, settingDays, asking, issuing}
 use Rattle.tenants.specs.Calls.{Call, enter, withdraw, setDays, changeOf}
 use Rattle.tenants.specs.Alone.{after}
-use Rattle.tenants.specs.Together.{ownOf, cellsOf, isGood}
+use Rattle.tenants.specs.Together.{ownOf}
 use Rattle.tenants.proofs.Ranges.{held-fits}
 use Rattle.tenants.proofs.Allowed.{hasRoom}
 use Rattle.tenants.proofs.Apart.{own-after}
@@ -43,17 +22,7 @@ use Rattle.tenants.proofs.OneList.{held-as-entered, others-after-entering, not-
 use Rattle.layout.specs.Layout.{bookOf, isBook}
 use Rattle.layout.proofs.Promises.{undamaged-says}
 use Rattle.book.specs.OnBook.{ownIn, entry, withdrawal, newDays, bookAfter, editionIn, issuedFrom}
-use Rattle.book.specs.DoneCalls.{
-  enteredBook,
-  withdrawnBook,
-  GivesTheSame,
-  GoodOrder,
-  GivesCell,
-  GivesNothing,
-  EnterDone,
-  WithdrawDone,
-  DaysDone,
-}
+use Rattle.book.specs.DoneCalls.{enteredBook, withdrawnBook, GivesTheSame, GivesCell, GivesNothing, EnterDone, WithdrawDone, DaysDone}
 use Rattle.book.proofs.Undamaged.{good, still-undamaged, book-after}
 use Rattle.book.proofs.Issues.{issued-line, line-checked}
 

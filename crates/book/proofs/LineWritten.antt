@@ -1,12 +1,11 @@
 -- A line that is issued from an undamaged book is written and not refused: its tests have passed before, or cannot fail there.
 -- Assumes nothing.
-use mathlib.Core.Path.{_≡_, refl, sym, ap, _∙_}
+use mathlib.Core.Path.{_≡_, refl, sym}
 use mathlib.Core.Bool.{true}
 use mathlib.Core.List.{List}
 use mathlib.Core.Option.{Option, none, some}
 use Prim.Native.Nat.{ℕ, _^_, _≤_}
 use borrow.Author.Tests.{le-leb, lt-ltb}
-use lib.ListN.{getD}
 use Rattle.text.proofs.Every.{and-first, and-second}
 use Rattle.dates.specs.Calendar.{isDate}
 use Rattle.permit.specs.Identifiers.{isServerId}
@@ -16,10 +15,9 @@ use Rattle.permit.specs.declared.user_permit.UserPermit.{UserPermit}
 use Rattle.permit.specs.declared.user_permit.UserPermit.the-variants as user-permit
 use Rattle.permit.proofs.ShipRead.{ship-form}
 use Rattle.tenants.specs.declared.Held.{Held}
-use Rattle.tenants.specs.declared.Setting.{Setting}
 use Rattle.tenants.specs.Cells.{cellOf}
 use Rattle.tenants.specs.Rules.{isTenant, isDays, lineCell, lineFor}
-use Rattle.tenants.specs.Together.{noSetting, ownOf, isSetting}
+use Rattle.tenants.specs.Together.{ownOf, isSetting}
 use Rattle.tenants.proofs.Ranges.{Fit, tenant-below, held-fits}
 use Rattle.tenants.proofs.FoundHeld.{found-held}
 use Rattle.layout.specs.Layout.{bookOf, isBook}

@@ -6,7 +6,7 @@ ghost use Rattle.tenants.specs.Rules.{isDays, isHeld, changeNumber};
 ghost use Rattle.tenants.specs.Together.{fullName};
 ghost use Rattle.layout.specs.Layout.{bookOf, isBook};
 ghost use Rattle.book.specs.declared.finding.Found.the-variants.{Absent};
-ghost use Rattle.book.specs.OnBook.{ownIn, entry, withdrawal, newDays, bytesAfter};
+ghost use Rattle.book.specs.OnBook.{entry, withdrawal, newDays, bytesAfter};
 ghost use Rattle.book.specs.Finding.{foundIn};
 use super::finding::Found;
 use layout::RECORD_SIZE;

@@ -16,7 +16,7 @@ use Rattle.text.proofs.Places.{number-join, number-at-below}
 use Rattle.permit.specs.Identifiers.{isText, isCellName}
 use Rattle.tenants.specs.Cells.{startsAbove}
 use Rattle.tenants.specs.Rules.{isTenant, isHeld}
-use Rattle.tenants.specs.Together.{cellIn, BookRecord, fullName, tenantOf, nameOf, named, cellsOf, isRecord, areRecords}
+use Rattle.tenants.specs.Together.{cellIn, BookRecord, fullName, tenantOf, nameOf, cellsOf, isRecord, areRecords}
 use Rattle.layout.specs.Layout.{recordSize, recordPlace, usedLength, recordAt, eachFrom}
 use Rattle.layout.specs.Judging.{recordPart, aboveTest, recordTest, recordTests, heldFrom}
 use Rattle.layout.proofs.Told.{byte-number}
