@@ -1,18 +1,18 @@
 -- The comment is the part of a line from its place on, and the empty part where there is none.
 -- Assumes nothing.
 use mathlib.Core.Path.{_≡_, refl, _∙_}
-use mathlib.Core.Bool.{Bool, true, false, cond, _&&_}
+use mathlib.Core.Bool.{Bool, true, false, cond}
 use mathlib.Core.List.{List, []}
 use Prim.Native.Nat.{ℕ, _+_, _-_, _≤_}
 use native.Mathlib.Omega.{arith}
-use lib.Dec.{leb}
 use lib.ListN.{length, take, drop, length-drop}
 use lib.Seq.{take-all}
-use Rattle.text.proofs.Every.{and-second}
-use Rattle.permit.specs.Line.{isPermit, isTail, isLine, partsOf, shapeOf, editionLength, commentPlace, commentOf, commentAt}
+use Rattle.text.proofs.TextsAt.{all-within}
+use Rattle.text.specs.Characters.{isPrintable}
+use Rattle.permit.specs.Line.{isLine, partsOf, shapeOf, editionLength, commentPlace, commentOf, commentAt}
 use Rattle.permit.specs.declared.line.Shape.the-variants as shape
 use Rattle.permit.specs.declared.line.CommentPlace.the-variants.{At, None}
-use Rattle.permit.proofs.ReadFields.{comment-within}
+use Rattle.permit.proofs.GoodLine.{good-line}
 use Rattle.permit.proofs.ReadLines.{shape-wrong}
 
 at-made : (t : Bool) (n m : ℕ) → cond t (At n) None ≡ At m → (t ≡ true) × (m ≡ n)
@@ -42,9 +42,12 @@ module _ (line : List ℕ) where
     there = at-made (isLine line) (commentPlace line) at made
 
     pub place-within : at ≤ length line
-    unfolding isLine
     place-within =
-        omega (arith, there .1, comment-within line (and-second (leb (length line) 160 && isPermit line) (isTail line) (there .0)))
+        omega (
+          arith,
+          there .1,
+          all-within isPrintable (length line - commentPlace line) line (commentPlace line) (good-line line (there .0) .comment),
+        )
 
     pub part-after : take (length line - at) (drop at line) ≡ commentOf line
     unfolding commentOf

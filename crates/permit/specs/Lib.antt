@@ -7,5 +7,6 @@ pub mod CellPermit
 pub mod DateText
 pub mod Line
 pub mod LineParts
+pub mod LineFields
 pub mod ReadBack
 pub mod OneCharacter
