@@ -7,6 +7,7 @@ pub mod CellPermit
 pub mod DateText
 pub mod Line
 pub mod LineParts
-pub mod LineFields
 pub mod ReadBack
 pub mod OneCharacter
+pub mod LineFields
+pub mod Laws

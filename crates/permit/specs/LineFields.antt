@@ -1,4 +1,4 @@
--- A line of PERMIT.TXT in 01's words: its fields one after the other, with commas between. Given without its CR LF.
+-- A line of PERMIT.TXT in the words of the rules: its fields one after the other, with commas between. Given without its CR LF.
 use mathlib.Core.Path.{_≡_}
 use mathlib.Core.Bool.{true}
 use mathlib.Core.List.{List, [], _∷_, _++_}
