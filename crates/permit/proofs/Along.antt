@@ -2,12 +2,12 @@
 -- Assumes nothing.
 use mathlib.Core.Path.{_≡_, sym, ap, _∙_}
 use mathlib.Core.Bool.{Bool, true}
-use mathlib.Core.List.{List, [], _∷_, _++_, append-assoc}
+use mathlib.Core.List.{List, _∷_, _++_, append-assoc}
 use Prim.Native.Nat.{ℕ, _+_, _^_, _≤_, _<_}
-use native.Mathlib.Nat.{not-suc-le-zero}
+use native.Mathlib.Nat.{add-zero}
 use native.Mathlib.Omega.{arith}
 use lib.ListN.{length, getD, drop, length-append}
-use lib.Seq.{drop-at, getD-at}
+use lib.Seq.{drop-at, getD-at, getD-drop}
 use Rattle.text.specs.Numbers.{bytesOf, bytesNumber}
 use Rattle.text.specs.Characters.{allOf}
 use Rattle.text.specs.Places.{numberAt}
@@ -56,9 +56,8 @@ module _ {s : List ℕ} {at : ℕ} where
   first-there c rest from =
       ap (λ (l : List ℕ). getD l at 0) (from .split) ∙ getD-at (from .front) c rest 0 at (from .place)
 
-  pub head-there : (t rest : List ℕ) → From s at (t ++ rest) → 0 < length t → getD s at 0 ≡ getD t 0 0
-  head-there [] rest from h = absurd (not-suc-le-zero h)
-  head-there (c ∷ t) rest from h = first-there c (t ++ rest) from
+  pub head-there : (rest : List ℕ) → From s at rest → getD s at 0 ≡ getD rest 0 0
+  head-there rest from = rw (getD-drop, add-zero) at (ap (λ (l : List ℕ). getD l 0 0) (rest-there rest from))
 
   pub number-there : (n x : ℕ) (rest : List ℕ) → From s at (bytesOf n x ++ rest) → x < 256 ^ n → numberAt n s at ≡ x
   number-there n x rest from fits =

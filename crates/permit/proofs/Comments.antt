@@ -1,18 +1,22 @@
--- The comment is the part of a line from its place on, and the empty part where there is none.
+-- The comment is the part of a line from its place on, and the empty part at the line's start where there is none.
 -- Assumes nothing.
-use mathlib.Core.Path.{_≡_, refl, _∙_}
-use mathlib.Core.Bool.{Bool, true, false, cond, _&&_}
-use mathlib.Core.List.{List, []}
-use Prim.Native.Nat.{ℕ, _+_, _-_, _≤_}
+use mathlib.Core.Path.{_≡_, refl, ap, _∙_}
+use mathlib.Core.Bool.{Bool, true, false, cond}
+use mathlib.Core.List.{List}
+use Prim.Native.Nat.{ℕ, _+_, _-_}
 use native.Mathlib.Omega.{arith}
-use lib.Dec.{leb}
 use lib.ListN.{length, take, drop, length-drop}
-use lib.Seq.{take-all}
-use Rattle.text.proofs.Every.{and-second}
-use Rattle.permit.specs.Line.{isPermit, isTail, isLine, partsOf, shapeOf, editionLength, commentPlace, commentOf, commentAt}
+use lib.Seq.{take-all, take-length}
+use denote.Ref.{RefT, ptr, now}
+use Rattle.text.specs.Characters.{isPrintable}
+use Rattle.text.specs.NoChoice.{pointAt}
+use Rattle.text.proofs.Every.{either}
+use Rattle.text.proofs.TextsAt.{all-within}
+use Rattle.permit.specs.Line.{isLine, partsOf, shapeOf, editionLength, commentPlace, commentOf, commentAt, commentStart}
+use Rattle.permit.specs.Laws.{CommentWithin, CommentFrom, EmptyComment, CommentStands}
 use Rattle.permit.specs.declared.line.Shape.the-variants as shape
 use Rattle.permit.specs.declared.line.CommentPlace.the-variants.{At, None}
-use Rattle.permit.proofs.ReadFields.{comment-within}
+use Rattle.permit.proofs.GoodLine.{good-line}
 use Rattle.permit.proofs.ReadLines.{shape-wrong}
 
 at-made : (t : Bool) (n m : ℕ) → cond t (At n) None ≡ At m → (t ≡ true) × (m ≡ n)
@@ -32,21 +36,58 @@ module _ (line : List ℕ) where
   unfolding commentAt
   comment-after good n counted = rw (good, counted)
 
-  pub empty-part : commentAt line ≡ None → [] ≡ commentOf line
-  unfolding commentAt commentOf
-  empty-part made = rw (none-made (isLine line) (commentPlace line) made)
+  none-there : commentAt line ≡ None → isLine line ≡ false
+  unfolding commentAt
+  none-there made = none-made (isLine line) (commentPlace line) made
+
+  empty-start : commentAt line ≡ None → 0 ≡ commentStart line
+  unfolding commentStart
+  empty-start made = rw (none-there made)
 
   module _ (at : ℕ) (made : commentAt line ≡ At at) where
     there : (isLine line ≡ true) × (at ≡ commentPlace line)
     unfolding commentAt
     there = at-made (isLine line) (commentPlace line) at made
 
-    pub place-within : at ≤ length line
-    unfolding isLine
-    place-within =
-        omega (arith, there .1, comment-within line (and-second (leb (length line) 160 && isPermit line) (isTail line) (there .0)))
+    part-start : at ≡ commentStart line
+    unfolding commentStart
+    part-start = there .1 ∙ (rw (there .0))
 
-    pub part-after : take (length line - at) (drop at line) ≡ commentOf line
-    unfolding commentOf
-    part-after =
-        take-all (length line - at) (drop at line) (simp length-drop (omega arith)) ∙ (rw (there .0, there .1))
+pub place-within : CommentWithin
+place-within line at made =
+    let good = there line at made in
+    omega (
+      arith,
+      good .1,
+      all-within isPrintable (length line - commentPlace line) line (commentPlace line) (good-line line (good .0) .comment),
+    )
+
+pub comment-from : CommentFrom
+unfolding commentOf
+comment-from line at made = let good = there line at made in rw (good .0, good .1)
+
+pub empty-comment : EmptyComment
+unfolding commentOf
+empty-comment line made = rw (none-there line made)
+
+pub part-after : (line : List ℕ) (at : ℕ) → commentAt line ≡ At at → take (length line - at) (drop at line) ≡ commentOf line
+part-after line at made =
+    take-all (length line - at) (drop at line) (simp length-drop (omega arith)) ∙ comment-from line at made
+
+pub comment-stands : CommentStands
+unfolding commentOf commentStart
+comment-stands line =
+    either (isLine line)
+    (λ good. rw good (take-length (drop (commentPlace line) line)))
+    (λ bad. rw bad)
+
+-- where the part that is handed back points
+module _ (line : RefT (List ℕ)) where
+  moved : (at : ℕ) → at ≡ commentStart (now line) → (ptr line .0, at + ptr line .1) ≡ pointAt line (commentStart (now line))
+  moved at start = let same : at + ptr line .1 ≡ ptr line .1 + commentStart (now line) = omega arith in ap (λ (k : ℕ). (ptr line .0, k)) same
+
+  pub empty-point : commentAt (now line) ≡ None → (ptr line .0, 0 + ptr line .1) ≡ pointAt line (commentStart (now line))
+  empty-point made = moved 0 (empty-start (now line) made)
+
+  pub part-point : (at : ℕ) → commentAt (now line) ≡ At at → (ptr line .0, at + ptr line .1) ≡ pointAt line (commentStart (now line))
+  part-point at made = moved at (part-start (now line) at made)

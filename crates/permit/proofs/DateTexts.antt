@@ -12,6 +12,7 @@ use Rattle.text.proofs.Every.{and-first}
 use Rattle.text.proofs.NumbersAt.{decimal-number, decimal-wrong, decimal-bound}
 use Rattle.dates.specs.Calendar.{isDate}
 use Rattle.permit.specs.DateText.{isDateAt, dateAt}
+use Rattle.permit.specs.Laws.{DateRight, DateWrong}
 
 -- what a test makes a number or wrong
 number-made : (t : Bool) (v x : ℕ) → cond t (Number v) Wrong ≡ Number x → (t ≡ true) × (x ≡ v)
@@ -52,19 +53,19 @@ module _ (s : List ℕ) (at : ℕ) where
     unfolding dateAt isDateAt
     is-date good = let e : isDate number ≡ true = rw same at good in rw (all, e) (ap Number same)
 
-  pub date-wrong : dateAt s at ≡ Wrong → isDateAt s at ≡ false
+pub date-wrong : DateWrong
+unfolding dateAt
+date-wrong s at made = wrong-made (isDateAt s at) (number s at) made
+
+pub date-right : DateRight
+unfolding dateAt
+date-right s at x made = number-made (isDateAt s at) (number s at) x made .0
+
+module _ (s : List ℕ) (at x : ℕ) (made : dateAt s at ≡ Number x) where
+  pub date-same : x ≡ number s at
   unfolding dateAt
-  date-wrong made = wrong-made (isDateAt s at) number made
+  date-same = number-made (isDateAt s at) (number s at) x made .1
 
-  module _ (x : ℕ) (made : dateAt s at ≡ Number x) where
-    pub date-right : isDateAt s at ≡ true
-    unfolding dateAt
-    date-right = number-made (isDateAt s at) number x made .0
-
-    pub date-same : x ≡ number
-    unfolding dateAt
-    date-same = number-made (isDateAt s at) number x made .1
-
-    pub date-small : x < 2 ^ 32
-    unfolding isDateAt
-    date-small = rw date-same (small (and-first (allAt isDigit 8 s at) (isDate number) date-right))
+  pub date-small : x < 2 ^ 32
+  unfolding isDateAt
+  date-small = rw date-same (small s at (and-first (allAt isDigit 8 s at) (isDate (number s at)) (date-right s at x made)))

@@ -14,16 +14,16 @@ use Rattle.dates.proofs.Bounds.{both}
 use Rattle.dates.proofs.Parts.{date-parts}
 use Rattle.permit.specs.Identifiers.{isText, isCellName, isCellKey, isServerId}
 use Rattle.permit.specs.CellPermit.{isCell}
+use Rattle.permit.specs.Laws.{TextFits}
 use Rattle.permit.specs.declared.line.Cell.{Cell}
 
-module _ (test : ℕ → Bool) (n x : ℕ) (text : isText test n x ≡ true) where
-  pub text-fits : x < 256 ^ n
-  unfolding isText
-  text-fits = ltb-true x (256 ^ n) (and-first (ltb x (256 ^ n)) (allOf test (bytesOf n x)) text)
+pub text-fits : TextFits
+unfolding isText
+text-fits test n x text = ltb-true x (256 ^ n) (and-first (ltb x (256 ^ n)) (allOf test (bytesOf n x)) text)
 
-  pub text-all : allOf test (bytesOf n x) ≡ true
-  unfolding isText
-  text-all = and-second (ltb x (256 ^ n)) (allOf test (bytesOf n x)) text
+pub text-all : (test : ℕ → Bool) (n x : ℕ) → isText test n x ≡ true → allOf test (bytesOf n x) ≡ true
+unfolding isText
+text-all test n x text = and-second (ltb x (256 ^ n)) (allOf test (bytesOf n x)) text
 
 pub date-fits : (date : ℕ) → isDate date ≡ true → date < 10 ^ 8
 unfolding year

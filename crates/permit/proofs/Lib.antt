@@ -19,6 +19,10 @@ pub mod Along
 pub mod GoodCell
 pub mod LineSizes
 pub mod TailRead
+pub mod GoodLine
+pub mod EditionTexts
+pub mod FieldsOfLines
+pub mod LinesAsFields
 pub mod PermitRead
 pub mod LineBack
 pub mod LinePlaced

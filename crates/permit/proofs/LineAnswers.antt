@@ -10,7 +10,7 @@ use lib.ListN.{length, length-append}
 use Rattle.text.specs.Texts.{placed, width}
 use Rattle.text.proofs.PlacedTexts.{placed-start}
 use Rattle.permit.specs.Identifiers.{isHwId}
-use Rattle.permit.specs.Output.{writtenOf, lentAfter}
+use Rattle.permit.specs.Output.{Answered}
 use Rattle.permit.specs.CellPermit.{shipWords, lineOf, lineEnd, isCell, writtenLine}
 use Rattle.permit.specs.declared.Written.{Written}
 use Rattle.permit.specs.declared.Written.the-variants.{Length, Refused}
@@ -26,26 +26,26 @@ pub written-size : (words : List ℕ) (cell : Cell) (n : ℕ) → n ≡ width (c
 written-size words cell n digits = simp length-append (omega (arith, line-size words cell))
 
 module _ (hw : ℕ) (cell : Cell) (out : List ℕ) where
-  -- what comes back and what the lent output then is
-  abbrev Answered : Written → List ℕ → Type 0
-  Answered r after = (r ≡ writtenOf (writtenLine hw cell (length out))) × (after ≡ lentAfter (writtenLine hw cell (length out)) out)
+  -- what writing into this output answers and leaves
+  abbrev Writes : Written → List ℕ → Type 0
+  Writes r after = Answered (writtenLine hw cell (length out)) out r after
 
-  pub no-room : length out < 76 → Answered (Refused 108) out
+  pub no-room : length out < 76 → Writes (Refused 108) out
   unfolding writtenLine
   no-room h = let e = lt-leb 76 (length out) h in (rw e, rw e)
 
   module _ (room : 76 ≤ length out) where
-    pub no-cell : isCell cell ≡ false → Answered (Refused 103) out
+    pub no-cell : isCell cell ≡ false → Writes (Refused 103) out
     unfolding writtenLine
     no-cell wrong = let e = le-leb 76 (length out) room in (rw (e, wrong), rw (e, wrong))
 
     module _ (good : isCell cell ≡ true) where
-      pub no-ship : isHwId hw ≡ false → Answered (Refused 18) out
+      pub no-ship : isHwId hw ≡ false → Writes (Refused 18) out
       unfolding writtenLine
       no-ship wrong = let e = le-leb 76 (length out) room in (rw (e, good, wrong), rw (e, good, wrong))
 
       pub written : isHwId hw ≡ true → (words after : List ℕ) (n : ℕ) → words ≡ shipWords hw → n ≡ length (lineOf words cell ++ lineEnd)
-          → after ≡ placed 0 (lineOf words cell ++ lineEnd) out → Answered (Length n) after
+          → after ≡ placed 0 (lineOf words cell ++ lineEnd) out → Writes (Length n) after
       unfolding writtenLine
       written ship words after n made size put =
           let e = le-leb 76 (length out) room in

@@ -1,30 +1,30 @@
 -- An accepted line with one of its permit's characters changed is refused: the check part is the enciphered CRC-32 of the first 48 characters,
 -- and each step from these to the check part is one-to-one. Assumes nothing.
 use mathlib.Core.Path.{_≡_, refl, sym, ap, _∙_}
-use mathlib.Core.Bool.{Bool, true, false, _&&_}
+use mathlib.Core.Bool.{Bool, true, false}
 use mathlib.Core.List.{List}
 use Prim.Native.Nat.{ℕ, _-_, _^_, _≤_, _<_}
 use native.Mathlib.Omega.{arith}
 use borrow.Author.Tests.{ltb-true, ltb-false, eqb-true}
-use lib.Dec.{leb, ltb, eqb}
+use lib.Dec.{ltb, eqb}
 use lib.ListN.{length, getD}
 use Rattle.text.specs.Numbers.{Below}
-use Rattle.text.specs.Characters.{isHex, isNameCharacter, hexNumber, allOf}
-use Rattle.text.specs.Texts.{part, allAt}
+use Rattle.text.specs.Characters.{isHex, hexNumber, allOf}
+use Rattle.text.specs.Texts.{part}
 use Rattle.text.proofs.Digits.{take-below}
-use Rattle.text.proofs.Every.{and-first, and-second, either}
+use Rattle.text.proofs.Every.{either}
 use Rattle.text.proofs.Alphabets.{text-injective}
 use Rattle.text.proofs.Notations.{hex}
 use Rattle.text.proofs.TextsAt.{all-within, all-there}
 use Rattle.crc32.specs.OneChange.{DifferAt}
 use Rattle.crc32.proofs.OneChange.{one-change}
 use Rattle.permit.specs.Order.{demand}
-use Rattle.permit.specs.DateText.{isDateAt}
 use Rattle.permit.specs.CellPermit.{shipWords, checkOf}
-use Rattle.permit.specs.Line.{isPermit, isTail, isLine, partsOf, keyUnder, recordOf, checked, readWith, givenNumber, readLine}
+use Rattle.permit.specs.Line.{isLine, partsOf, keyUnder, recordOf, checked, readWith, givenNumber, readLine}
 use Rattle.permit.specs.OneCharacter.{isAccepted, LineGuarded}
 use Rattle.permit.specs.declared.line.Line.{Line}
 use Rattle.permit.specs.declared.line.Line.the-variants.{Refused}
+use Rattle.permit.proofs.GoodLine.{good-line}
 use Rattle.permit.proofs.OnePlace.{part-before, part-after, part-differs}
 use Rattle.permit.proofs.ShipCipher.{ship-words, same-crc}
 
@@ -44,23 +44,11 @@ module _ (n : ℕ) where
 
 -- the check part is 16 hex characters within the line
 module _ (s : List ℕ) (line : isLine s ≡ true) where
-  permit : isPermit s ≡ true
-  unfolding isLine
-  permit = and-second (leb (length s) 160) (isPermit s) (and-first (leb (length s) 160 && isPermit s) (isTail s) line)
-
-  check-all : allAt isHex 16 s 48 ≡ true
-  unfolding isPermit
-  check-all =
-      and-second
-      (allAt isNameCharacter 8 s 0 && isDateAt s 8 && allAt isHex 16 s 16 && allAt isHex 16 s 32)
-      (allAt isHex 16 s 48)
-      permit
-
   check-within : 64 ≤ length s
-  check-within = all-within isHex 16 s 48 check-all
+  check-within = all-within isHex 16 s 48 (good-line s line .check)
 
   check-hex : allOf isHex (part 16 s 48) ≡ true
-  check-hex = all-there isHex 16 s 48 check-all
+  check-hex = all-there isHex 16 s 48 (good-line s line .check)
 
 -- the check part is right for the first 48 characters
 abbrev Right : List ℕ → List ℕ → Type 0

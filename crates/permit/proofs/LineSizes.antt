@@ -60,7 +60,7 @@ permit-size words cell =
     simp length-append (omega (arith, unchecked-size words cell, sizes words cell .check-size))
 
 module _ (cell : Cell) where
-  pub edition-size : length (numeral (cell .edition)) ≡ width (cell .edition)
+  edition-size : length (numeral (cell .edition)) ≡ width (cell .edition)
   edition-size = numeral-length (cell .edition)
 
   pub edition-few : Good cell → width (cell .edition) ≤ 3

@@ -3,14 +3,12 @@ use mathlib.Core.Path.{_≡_, sym, ap, _∙_}
 use mathlib.Core.List.{List, _++_}
 use Prim.Native.Nat.{ℕ}
 use lib.ListN.{length, drop}
-use Rattle.permit.specs.Output.{Output, text, refusal, writtenOf, lentAfter}
-use Rattle.permit.specs.declared.Written.{Written}
+use Rattle.permit.specs.Output.{Output, text, writtenOf, lentAfter}
+use Rattle.permit.specs.Laws.{RefusalAnswered}
 use Rattle.permit.specs.declared.Written.the-variants as written
+pub use Rattle.permit.specs.Output.{Answered}
 
-abbrev pub Answered : Output → List ℕ → Written → List ℕ → Type 0
-Answered o before answer after = (answer ≡ writtenOf o) × (after ≡ lentAfter o before)
-
-pub refused : (o : Output) (n : ℕ) (before : List ℕ) → o ≡ refusal n → Answered o before (written.Refused n) before
+pub refused : RefusalAnswered
 refused o n before e = (sym (ap writtenOf e), sym (ap (λ (x : Output). lentAfter x before) e))
 
 pub wrote : (o : Output) (t : List ℕ) (n : ℕ) (before after : List ℕ) → o ≡ text t → length t ≡ n → after ≡ t ++ drop n before

@@ -1,23 +1,23 @@
 -- The fields after a permit are wrong where a test fails, and otherwise have the parts that were read.
 -- Assumes nothing.
-use mathlib.Core.Path.{_≡_, refl, sym, _∙_}
-use mathlib.Core.Bool.{Bool, true, false, not, _&&_, and-assoc}
+use mathlib.Core.Path.{_≡_, refl}
+use mathlib.Core.Bool.{Bool, true, false, _&&_, and-assoc}
 use mathlib.Core.List.{List, [], _∷_}
 use Prim.Native.Nat.{ℕ, zero, suc, _+_, _-_, _≤_, _<_}
 use native.Mathlib.Nat.{pow-le-pow-right}
 use native.Mathlib.Omega.{arith}
 use borrow.Author.Tests.{eqb-true, leb-true, leb-false}
-use lib.Dec.{leb, eqb}
+use lib.Dec.{leb}
 use lib.ListN.{length, getD, take, drop, List·getD-eq-default}
 use Rattle.text.specs.Characters.{isDigit, isNameCharacter, isPrintable, allOf}
 use Rattle.text.specs.Places.{numberAt}
 use Rattle.text.specs.Texts.{allAt, decimalAt}
 use Rattle.text.specs.declared.numbers.Reading.the-variants.{Number, Wrong}
 use Rattle.text.proofs.Every.{and-first, and-second, either, all-more}
-use Rattle.text.proofs.TextsAt.{all-within, all-at-place}
+use Rattle.text.proofs.TextsAt.{all-at-place}
 use Rattle.text.proofs.NumbersAt.{decimal-number, decimal-wrong, decimal-bound}
 use Rattle.permit.specs.CellPermit.{comma}
-use Rattle.permit.specs.Line.{commaAt, leadingDigits, editionLength, commentPlace, isTail}
+use Rattle.permit.specs.Line.{commaAt, leadingDigits, editionLength, isTail}
 use Rattle.permit.specs.LineParts.{isLevelPart, isServerPart, fieldParts, fieldsOf}
 use Rattle.permit.specs.declared.line.Fields.the-variants as fields
 
@@ -29,7 +29,7 @@ comma-within line at here =
     (λ bad. absurd (omega (arith, eqb-true (getD line at 0) comma here, List·getD-eq-default line 0 {n = at} (omega (arith, leb-false (suc at) (length line) bad)))))
 
 -- the digits that are counted are digits, and no more than asked for
-leading-all : (n : ℕ) (s : List ℕ) → allOf isDigit (take (leadingDigits n s) s) ≡ true
+pub leading-all : (n : ℕ) (s : List ℕ) → allOf isDigit (take (leadingDigits n s) s) ≡ true
 unfolding leadingDigits allOf
 leading-all zero s = refl
 leading-all (suc n) [] = refl
@@ -61,18 +61,6 @@ module _ (line : List ℕ) where
   unfolding isTail isLevelPart isServerPart
   tail-parts = simp and-assoc
 
-  -- the comment begins within the line, or at its end
-  pub comment-within : isTail line ≡ true → commentPlace line ≤ length line
-  unfolding isServerPart
-  comment-within good =
-      let n = editionLength line in
-      let server = isServerPart line n in
-      let printable = allAt isPrintable (length line - (71 + n)) line (71 + n) in
-      let last : printable ≡ true =
-      and-second (commaAt line (67 + n) && allAt isNameCharacter 2 line (68 + n) && commaAt line (70 + n)) printable
-      (and-second (isLevelPart line) server (sym tail-parts ∙ good)) in
-      omega (arith, all-within isPrintable (length line - (71 + n)) line (71 + n) last)
-
   pub no-level : isLevelPart line ≡ false → fields.Wrong ≡ fieldsOf line
   unfolding fieldsOf
   no-level bad = rw (tail-parts, bad)
@@ -85,7 +73,7 @@ module _ (line : List ℕ) where
         let at-most = leb (getD line 65 0) 49 in
         leb-true 48 (getD line 65 0)
         (and-first at-least at-most
-        (second-of (commaAt line 64) (at-least && at-most) (commaAt line 66) (not (eqb (getD line 67 0) 48)) level))
+        (second-of (commaAt line 64) (at-least && at-most) (commaAt line 66) _ level))
 
     module _ (n : ℕ) (counted : n ≡ editionLength line) where
       pub no-server : isServerPart line n ≡ false → fields.Wrong ≡ fieldsOf line

@@ -1,20 +1,16 @@
 -- A line is read from its parts: 12 where it has not the shape, 13 where the check is wrong, 21 where a key's padding is, else a record.
 -- Assumes nothing.
 use mathlib.Core.Path.{_≡_, refl}
-use mathlib.Core.Bool.{Bool, true, false, cond, _&&_}
+use mathlib.Core.Bool.{Bool, true, false, cond}
 use mathlib.Core.List.{List}
 use Prim.Native.Nat.{ℕ, _≤_, _<_}
 use borrow.Author.Tests.{le-leb, lt-leb, eq-eqb, ne-eqb}
-use lib.Dec.{leb}
 use lib.ListN.{length, take}
-use Rattle.text.specs.Characters.{isHex, isNameCharacter}
-use Rattle.text.specs.Texts.{allAt}
+use Rattle.text.specs.Characters.{isHex}
 use Rattle.text.specs.declared.numbers.Reading.the-variants.{Number, Wrong}
-use Rattle.text.proofs.Every.{and-first, and-second}
 use Rattle.text.proofs.TextsAt.{all-within}
 use Rattle.dates.specs.Notice.{daysLeft, noticeOf}
 use Rattle.dates.specs.declared.Notice.{Notice}
-use Rattle.permit.specs.DateText.{isDateAt}
 use Rattle.permit.specs.CellPermit.{shipWords, checkOf}
 use Rattle.permit.specs.Line.{isPermit, isTail, isLine, partsOf, shapeOf, keyUnder, checked, readWith, givenNumber, readLine}
 use Rattle.permit.specs.LineParts.{permitParts, permitOf, fieldParts, fieldsOf}
@@ -26,6 +22,7 @@ use Rattle.permit.specs.declared.line.Parts.{Parts}
 use Rattle.permit.specs.declared.line.Shape.the-variants as shape
 use Rattle.permit.specs.declared.line.Line.{Line}
 use Rattle.permit.specs.declared.line.Line.the-variants.{Record, Refused}
+use Rattle.permit.proofs.GoodLine.{good-line}
 
 -- what a test made: the parts where it holds, and wrong where it does not
 permit-made : (t : Bool) (q p : PermitParts) → cond t (permit.Parts q) permit.Wrong ≡ permit.Parts p → (t ≡ true) × (p ≡ q)
@@ -95,17 +92,7 @@ module _ (line : List ℕ) where
 
   -- the permit's 64 bytes lie within a line
   pub permit-within : isLine line ≡ true → 64 ≤ length line
-  unfolding isLine isPermit
-  permit-within good =
-      let name = allAt isNameCharacter 8 line 0 in
-      let expiry = isDateAt line 8 in
-      let block1 = allAt isHex 16 line 16 in
-      let block2 = allAt isHex 16 line 32 in
-      let check = allAt isHex 16 line 48 in
-      all-within isHex 16 line 48
-      (and-second (name && expiry && block1 && block2) check
-      (and-second (leb (length line) 160) (name && expiry && block1 && block2 && check)
-      (and-first (leb (length line) 160 && (name && expiry && block1 && block2 && check)) (isTail line) good)))
+  permit-within good = all-within isHex 16 line 48 (good-line line good .check)
 
 module _ (line : List ℕ) (p : Parts) (made : shapeOf line ≡ shape.Line p) where
   pub line-good : isLine line ≡ true

@@ -14,6 +14,7 @@ use Rattle.permit.specs.Order.{demand}
 use Rattle.permit.specs.Identifiers.{isHwId}
 use Rattle.permit.specs.Register.{isRegister, keyOf}
 use Rattle.permit.specs.UserPermit.{makerWords, isPermitText, isCrcRight, permitMId, shipOf, readUnder, readPermit}
+use Rattle.permit.specs.Laws.{ShipForm}
 use Rattle.permit.specs.declared.register.Maker.{Maker}
 use Rattle.permit.specs.declared.register.Maker.the-variants.{Key, Unknown}
 use Rattle.permit.specs.declared.user_permit.UserPermit.{UserPermit}
@@ -41,10 +42,10 @@ module _ (hw m : ℕ) where
       reading-form (unpadOf 5 (decipherOf (makerWords key) (hexNumber (part 16 permit 0)))) (permitMId permit) ship
   maker-form Unknown permit ship = cc
 
-  pub ship-form : (register permit : List ℕ) → readPermit register permit ≡ Ship hw m → isHwId hw ≡ true
-  unfolding readPermit
-  ship-form register permit ship =
-      let one = passed (isRegister register) 109 hw m _ ship in
-      let two = passed (isPermitText permit) 106 hw m _ (one .1) in
-      let three = passed (isCrcRight permit) 17 hw m _ (two .1) in
-      maker-form (keyOf register (permitMId permit)) permit (three .1)
+pub ship-form : ShipForm
+unfolding readPermit
+ship-form hw m register permit ship =
+    let one = passed (isRegister register) 109 hw m _ ship in
+    let two = passed (isPermitText permit) 106 hw m _ (one .1) in
+    let three = passed (isCrcRight permit) 17 hw m _ (two .1) in
+    maker-form hw m (keyOf register (permitMId permit)) permit (three .1)

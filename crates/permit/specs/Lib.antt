@@ -10,3 +10,5 @@ pub mod LineParts
 pub mod Answers
 pub mod ReadBack
 pub mod OneCharacter
+pub mod LineFields
+pub mod Laws

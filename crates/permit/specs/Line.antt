@@ -136,3 +136,7 @@ lineNumber (Refused n) = n
 -- where the comment begins; none for a line that gives 12
 unfoldable pub commentAt : List ℕ → CommentPlace
 commentAt line = cond (isLine line) (comment-place.At (commentPlace line)) comment-place.None
+
+-- where the comment's part begins; the empty part at the line's start for a line that gives 12
+unfoldable pub commentStart : List ℕ → ℕ
+commentStart line = cond (isLine line) (commentPlace line) 0

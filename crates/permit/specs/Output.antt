@@ -1,4 +1,5 @@
 -- What a call that writes gives: a text at the output's start, or a refusal that writes nothing.
+use mathlib.Core.Path.{_≡_}
 use mathlib.Core.List.{List, _++_}
 use Prim.Native.Nat.{ℕ}
 use lib.ListN.{length, drop}
@@ -19,6 +20,10 @@ writtenOf (refusal n) = written.Refused n
 abbrev pub lentAfter : Output → List ℕ → List ℕ
 lentAfter (text t) out = t ++ drop (length t) out
 lentAfter (refusal n) out = out
+
+-- what a call answers and the lent output afterwards are those of what it gives
+abbrev pub Answered : Output → List ℕ → Written → List ℕ → Type 0
+Answered o before answer after = (answer ≡ writtenOf o) × (after ≡ lentAfter o before)
 
 -- the answer's number: 0 for done
 abbrev pub writtenNumber : Written → ℕ

@@ -2,9 +2,11 @@
 ghost use mathlib.Core.Path.{_≡_};
 ghost use Prim.Native.Nat.{_≤_};
 ghost use lib.ListN.{getD};
+ghost use denote.Ref.{ptr};
 ghost use Rattle.text.specs.Characters.{isDigit};
+ghost use Rattle.text.specs.NoChoice.{pointAt};
 ghost use Rattle.permit.specs.CellPermit.{shipWords, checkOf};
-ghost use Rattle.permit.specs.Line.{commaAt, editionLength, shapeOf, commentOf, commentAt, keyUnder, givenNumber, readWith, readLine, lineNumber};
+ghost use Rattle.permit.specs.Line.{commaAt, editionLength, shapeOf, commentOf, commentAt, commentStart, keyUnder, givenNumber, readWith, readLine, lineNumber};
 ghost use Rattle.permit.specs.LineParts.{permitOf, isLevelPart, isServerPart, fieldsOf};
 use text::characters::Alphabet;
 use text::numbers::Reading;
@@ -265,9 +267,9 @@ pub fn comment_place(line: &[u8]) -> CommentPlace
     CommentPlace::At(71 + edition_length(line))
 }
 
-// The comment, a part of the line; the empty part for a line that gives 12.
+// The comment, as the part of the line that it is; the empty part at the line's start for a line that gives 12.
 pub fn comment(line: &[u8]) -> &[u8]
-    ensures { λ r. ⌜ now r ≡ commentOf (now (line .entry)) ⌝ }
+    ensures { λ r. ⌜ (now r ≡ commentOf (now (line .entry))) × (ptr r ≡ pointAt (line .entry) (commentStart (now (line .entry)))) ⌝ }
 {
     let CommentPlace::At(at) = comment_place(line) else {
         return &line[0..0];

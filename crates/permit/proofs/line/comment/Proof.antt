@@ -3,9 +3,9 @@
 use mathlib.Core.Path.{_≡_, sym, _∙_}
 use native.Mathlib.Omega.{arith}
 use borrow.Author.Needs.{needs}
-use Rattle.permit.specs.declared.line.CommentPlace.the-variants.{At}
+use Rattle.permit.specs.declared.line.CommentPlace.the-variants.{At, None}
 use Rattle.permit.specs.Line.{commentAt}
-use Rattle.permit.proofs.Comments.{empty-part, place-within, part-after}
+use Rattle.permit.proofs.Comments.{empty-comment, empty-point, place-within, part-after, part-point}
 use Rattle.permit.proofs.line.comment.Statement.{statement}
 use Rattle.permit.proofs.line.comment.Tie as tie
 
@@ -31,7 +31,10 @@ part-result-end : tie.Need-part-result-end
 part-result-end c = search needs
 
 returns : tie.Need-returns
-returns c = empty-part _ (sym (c .before .before .before .comment-place .ensures) ∙ c .before .enum-told .given .1)
+returns c =
+    let line = c .before .before .before .before .before .args .line in
+    let none : commentAt (line .now) ≡ None = sym (c .before .before .before .comment-place .ensures) ∙ c .before .enum-told .given .1 in
+    (sym (empty-comment (line .now) none), empty-point line none)
 
 sub-result-2 : tie.Need-sub-result-2
 sub-result-2 c = place-within _ _ (place c)
@@ -43,7 +46,9 @@ part-result-end-2 : tie.Need-part-result-end-2
 part-result-end-2 c = omega arith
 
 returns-2 : tie.Need-returns-2
-returns-2 c = part-after _ _ (place (c .before))
+returns-2 c =
+    let line = c .before .before .before .before .before .before .args .line in
+    (part-after (line .now) _ (place (c .before)), part-point line _ (place (c .before)))
 
 pub comment-spec : {M : Type 1} → statement M
 comment-spec =
