@@ -13,12 +13,11 @@ use Rattle.permit.specs.Register.{isRegister}
 use Rattle.permit.specs.UserPermit.{readPermit}
 use Rattle.permit.specs.CellPermit.{writtenLine}
 use Rattle.permit.specs.Line.{givenNumber, readLine}
-use Rattle.permit.specs.Output.{Output, refusal}
+use Rattle.permit.specs.Output.{Output, refusal, Answered}
 use Rattle.permit.specs.declared.Written.{Written}
 use Rattle.permit.specs.declared.line.Line.the-variants as of-line
 use Rattle.permit.specs.declared.user_permit.UserPermit.{UserPermit}
 use Rattle.permit.specs.declared.user_permit.UserPermit.the-variants as user-permit
-use Rattle.permit.proofs.Outputs.{Answered}
 use Rattle.tenants.specs.declared.Held.{Held}
 use Rattle.tenants.specs.declared.Setting.{Setting}
 use Rattle.tenants.specs.declared.Asked.the-variants as asked

@@ -1,18 +1,18 @@
 -- What opening writes is an undamaged book with the settings that were given and no cell.
 -- Assumes nothing.
 use mathlib.Core.Path.{_≡_, refl, sym, ap, _∙_}
-use mathlib.Core.Bool.{Bool, true, false, false≢true}
+use mathlib.Core.Bool.{Bool, true, false}
 use mathlib.Core.List.{List}
 use Prim.Native.Nat.{ℕ, _*_, _^_, _<_}
 use native.Mathlib.Omega.{arith}
-use borrow.Author.Tests.{lt-ltb, ltb-true, ltb-false, leb-true, leb-false, le-leb, lt-leb, eqb-true}
-use lib.Dec.{leb, ltb, eqb}
-use lib.ListN.{length, getD, take, drop, take-append-drop, List·getD-eq-default}
-use Rattle.text.specs.Numbers.{Below}
-use Rattle.text.specs.Characters.{isDigit, isNameCharacter, allOf}
+use borrow.Author.Tests.{lt-ltb, leb-true, eqb-true}
+use lib.Dec.{eqb}
+use lib.ListN.{length, getD, take, drop, take-append-drop}
+use Rattle.text.specs.Characters.{isNameCharacter, allOf}
 use Rattle.text.specs.Places.{numberAt}
 use Rattle.text.specs.Texts.{part}
-use Rattle.text.proofs.Every.{and-first, and-second, either, all-at}
+use Rattle.text.proofs.Every.{and-first, and-second}
+use Rattle.text.proofs.NameTexts.{names-below}
 use Rattle.text.proofs.Places.{bytes-at, number-at-below}
 use Rattle.text.proofs.TextsAt.{all-append}
 use Rattle.permit.specs.Order.{demand}
@@ -26,23 +26,6 @@ use Rattle.layout.proofs.Each.{each-count, each-is}
 use Rattle.layout.proofs.Promises.{good-reads-back}
 use Rattle.book.specs.Opening.{firstSetting, emptyBook, areGiven, opened}
 use Rattle.book.specs.Kept.{OpensEmpty}
-
-name-byte : (c : ℕ) → isNameCharacter c ≡ true → c < 256
-unfolding isNameCharacter isDigit
-name-byte c is =
-    either (leb c 90)
-    (λ low. omega (arith, leb-true c 90 low))
-    (λ high.
-    let above : 90 < c = leb-false c 90 high in
-    let no : false ≡ true = rw (le-leb 48 c (omega arith), lt-leb c 57 (omega arith), le-leb 65 c (omega arith), high) at is in
-    absurd (false≢true no))
-
--- each byte of a text of such characters is one, those past its end being 0
-names-below : (s : List ℕ) → allOf isNameCharacter s ≡ true → Below 256 s
-names-below s all i =
-    either (ltb i (length s))
-    (λ inside. name-byte (getD s i 0) (all-at isNameCharacter s all i (ltb-true i (length s) inside)))
-    (λ beyond. rw (List·getD-eq-default s 0 (ltb-false i (length s) beyond)) (omega arith))
 
 all-part : (test : ℕ → Bool) (n : ℕ) (s : List ℕ) (at : ℕ) → allOf test s ≡ true → allOf test (part n s at) ≡ true
 all-part test n s at all =

@@ -7,18 +7,17 @@ use Prim.Native.Nat.{ℕ, zero, suc, _+_, _-_, _^_, _≤_, _<_}
 use native.Mathlib.Nat.{add-zero, pow-le-pow-right}
 use native.Mathlib.Numerals.{add-one}
 use native.Mathlib.Omega.{arith}
-use borrow.Author.Tests.{eqb-true, lt-ltb, ltb-true, ltb-false}
-use lib.Dec.{ltb}
-use lib.ListN.{length, getD, drop, length-drop, take-append-drop, List·getD-eq-default}
+use borrow.Author.Tests.{eqb-true, lt-ltb}
+use lib.ListN.{length, getD, drop, length-drop, take-append-drop}
 use lib.Seq.{drop-cons, drop-drop, take-all, getD-drop, getD-take}
 use Rattle.text.specs.Numbers.{Below, bytesOf, bytesNumber}
 use Rattle.text.specs.Characters.{isDigit, isHex, isNameCharacter, isPrintable, allOf, decimalText, decimalNumber}
 use Rattle.text.specs.Places.{numberAt}
 use Rattle.text.specs.Texts.{part, allAt}
-use Rattle.text.proofs.Every.{either, all-at}
 use Rattle.text.proofs.Digits.{digits-value, value-below}
 use Rattle.text.proofs.Alphabets.{text-of-number, number-below}
-use Rattle.text.proofs.Notations.{decimal, digit-high, between-high}
+use Rattle.text.proofs.Notations.{decimal}
+use Rattle.text.proofs.NameTexts.{names-below}
 use Rattle.text.proofs.Places.{number-within, part-length}
 use Rattle.text.proofs.TextsAt.{all-within, all-there}
 use Rattle.dates.specs.Calendar.{isDate}
@@ -34,26 +33,13 @@ use Rattle.permit.proofs.TailRead.{tailOf}
 use Rattle.permit.proofs.EditionTexts.{edition-text}
 use Rattle.permit.proofs.FieldsOfLines.{in-order}
 
-name-below : (s : List ℕ) → allOf isNameCharacter s ≡ true → Below 256 s
-unfolding isNameCharacter
-name-below s all i =
-    either (ltb i (length s))
-    (λ h. small (getD s i 0) (all-at isNameCharacter s all i (ltb-true i (length s) h)))
-    (λ h. omega (arith, List·getD-eq-default s 0 {n = i} (ltb-false i (length s) h)))
-  where
-    small : (c : ℕ) → isNameCharacter c ≡ true → c < 256
-    small c e =
-        either (isDigit c)
-        (λ d. omega (arith, digit-high c d))
-        (λ d. omega (arith, between-high 65 90 c (rw d at e)))
-
 -- the bytes of a name at a place are those of its number
 module _ (m : ℕ) (s : List ℕ) (at : ℕ) (all : allAt isNameCharacter m s at ≡ true) where
   within : at + m ≤ length s
   within = all-within isNameCharacter m s at all
 
   below : Below 256 (part m s at)
-  below = name-below (part m s at) (all-there isNameCharacter m s at all)
+  below = names-below (part m s at) (all-there isNameCharacter m s at all)
 
   name-text : bytesOf m (numberAt m s at) ≡ part m s at
   name-text =

@@ -1,4 +1,4 @@
--- A line's two halves, each tested and taken apart: the permit, and the fields after it.
+-- A line's two halves, each tested and taken apart: the permit, and the fields after it. For contracts inside the crate alone.
 use mathlib.Core.Bool.{Bool, cond, not, _&&_}
 use mathlib.Core.List.{List}
 use Prim.Native.Nat.{ℕ, _+_, _-_}
