@@ -1,4 +1,4 @@
--- The numbers that stand for answers which C cannot take.
+-- The numbers that stand for answers which C cannot take: for the comparisons alone.
 use mathlib.Core.Bool.{cond}
 use Rattle.dates.specs.declared.DaysLeft.{DaysLeft}
 use Rattle.dates.specs.declared.DaysLeft.the-variants.{Passed, Left}
