@@ -4,7 +4,7 @@
 # make lib      target/staticlib/liblambukir.a and target/include/lambukir.h, for C
 # make install  the library, its header and its pkg-config file below PREFIX, or below DESTDIR and PREFIX
 
-CC = gcc
+CC = tests/x86-64 gcc
 CFLAGS = -std=c11 -O2 -Wall -Wextra -Werror
 LDLIBS = target/staticlib/liblambukir.a target/staticlib/libprobe.a -lcrypto -lz
 PREFIX = /usr/local
@@ -18,13 +18,14 @@ MODEL = target/tests/model.o target/tests/model_book.o target/tests/model_file.o
 
 run: look_through target/sample/desk
 	@sample/look_through
-	@target/sample/desk
+	@tests/x86-64 target/sample/desk
 
 test:
 	@tests/run
 
 bench: target/bench/bench target/bench/look_through
-	target/bench/bench
+	@[ "$$(uname -m)" = x86_64 ] || echo "the library is for x86-64: here an emulator runs it, and the figures say nothing"
+	tests/x86-64 target/bench/bench
 
 lib:
 	rt staticlib lambukir

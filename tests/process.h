@@ -18,7 +18,7 @@ static inline int need(int answer, const char *what)
     exit(1);
 }
 
-/* Starts a program with these for standard input and output; the answer is its process. */
+/* Starts a program with these for standard input and output, under the emulator that tests/x86-64 names, if any; the answer is its process. */
 static inline pid_t start_program(const char *path, int input, int output)
 {
     pid_t child = need(fork(), "fork");
@@ -26,7 +26,11 @@ static inline pid_t start_program(const char *path, int input, int output)
         return child;
     dup2(input, 0);
     dup2(output, 1);
-    execl(path, path, (char *)NULL);
+    const char *emulator = getenv("EMULATOR");
+    if (emulator)
+        execl(emulator, emulator, path, (char *)NULL);
+    else
+        execl(path, path, (char *)NULL);
     perror(path);
     _exit(127);
 }

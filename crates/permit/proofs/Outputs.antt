@@ -3,10 +3,9 @@ use mathlib.Core.Path.{_≡_, sym, ap, _∙_}
 use mathlib.Core.List.{List, _++_}
 use Prim.Native.Nat.{ℕ}
 use lib.ListN.{length, drop}
-use Rattle.permit.specs.Output.{Output, text, writtenOf, lentAfter}
+use Rattle.permit.specs.Output.{Output, text, writtenOf, lentAfter, Answered}
 use Rattle.permit.specs.Laws.{RefusalAnswered}
 use Rattle.permit.specs.declared.Written.the-variants as written
-pub use Rattle.permit.specs.Output.{Answered}
 
 pub refused : RefusalAnswered
 refused o n before e = (sym (ap writtenOf e), sym (ap (λ (x : Output). lentAfter x before) e))
