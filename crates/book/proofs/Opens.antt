@@ -3,21 +3,20 @@
 use mathlib.Core.Path.{_≡_, refl, sym, ap, _∙_}
 use mathlib.Core.Bool.{Bool, true, false}
 use mathlib.Core.List.{List}
-use Prim.Native.Nat.{ℕ, _*_, _^_, _<_}
+use Prim.Native.Nat.{ℕ, _*_, _<_}
 use native.Mathlib.Omega.{arith}
-use borrow.Author.Tests.{lt-ltb, leb-true, eqb-true}
+use borrow.Author.Tests.{leb-true, eqb-true}
 use lib.Dec.{eqb}
 use lib.ListN.{length, getD, take, drop, take-append-drop}
 use Rattle.text.specs.Characters.{isNameCharacter, allOf}
 use Rattle.text.specs.Places.{numberAt}
 use Rattle.text.specs.Texts.{part}
 use Rattle.text.proofs.Every.{and-first, and-second}
-use Rattle.text.proofs.NameTexts.{names-below}
-use Rattle.text.proofs.Places.{bytes-at, number-at-below}
-use Rattle.text.proofs.TextsAt.{all-append}
+use Rattle.text.proofs.TextsAt.{all-append, all-at-place}
 use Rattle.permit.specs.Order.{demand}
-use Rattle.permit.specs.Identifiers.{isText, isServerId}
+use Rattle.permit.specs.Identifiers.{isServerId}
 use Rattle.permit.specs.Output.{text, refusal}
+use Rattle.permit.proofs.NamesAt.{name-at}
 use Rattle.tenants.specs.Rules.{isDays}
 use Rattle.tenants.specs.Together.{cellsOf, noSetting, isSetting, quotaSum, isGood}
 use Rattle.tenants.proofs.Goodness.{Good, facts-good}
@@ -40,13 +39,8 @@ all-part test n s at all =
 module _ (quotas ids : List ℕ) where
   module _ (long : length ids ≡ 32) (all : allOf isNameCharacter ids ≡ true) where
     server-given : (t : ℕ) → t < 16 → isServerId (numberAt 2 ids (2 * t)) ≡ true
-    unfolding isText
     server-given t h =
-        rw (
-          lt-ltb (numberAt 2 ids (2 * t)) (256 ^ 2) (number-at-below 2 ids (2 * t) (names-below ids all)),
-          bytes-at 2 ids (2 * t) (names-below ids all) (omega arith),
-        )
-        (all-part isNameCharacter 2 ids (2 * t) all)
+        name-at 2 ids (2 * t) (all-at-place isNameCharacter 2 ids (2 * t) (omega arith) (all-part isNameCharacter 2 ids (2 * t) all))
 
     setting-given : (t : ℕ) → t < 16 → isSetting (firstSetting quotas ids t) ≡ true
     unfolding isSetting isDays

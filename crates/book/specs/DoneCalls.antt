@@ -17,13 +17,15 @@ use Rattle.tenants.specs.declared.Asked.the-variants.{Edition, Refused}
 use Rattle.tenants.specs.Rules.{lineCell, changeNumber}
 use Rattle.book.specs.OnBook.{ownIn, entry, withdrawal, newDays, bytesAfter, editionIn, issuedFrom, checkedBy}
 
--- the book after entering, after withdrawing, after new days
+-- the book after entering
 abbrev pub enteredBook : List ℕ → ℕ → Held → List ℕ
 enteredBook s t cell = bytesAfter t (entry s t cell) s
 
+-- after withdrawing
 abbrev pub withdrawnBook : List ℕ → ℕ → ℕ → List ℕ
 withdrawnBook s t name = bytesAfter t (withdrawal s t name) s
 
+-- after setting days
 abbrev pub daysBook : List ℕ → ℕ → ℕ → List ℕ
 daysBook s t days = bytesAfter t (newDays s t days) s
 

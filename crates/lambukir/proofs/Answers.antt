@@ -1,6 +1,6 @@
 -- The answers in the form that C sees: for a block, from what the key schedule said; for a record, from its notice's number.
 -- Assumes nothing.
-use mathlib.Core.Path.{_≡_, refl, sym, ap, ap₂, _∙_}
+use mathlib.Core.Path.{_≡_, sym, ap, ap₂, _∙_}
 use mathlib.Core.Bool.{Bool, true, cond}
 use mathlib.Core.List.{List}
 use Prim.Native.Nat.{ℕ}
@@ -8,14 +8,12 @@ use Rattle.blowfish.specs.Schedule.{isKey, schedule, keyNumber, scheduled}
 use Rattle.blowfish.proofs.Keys.{done-is-key, refused-is-none}
 use Rattle.lambukir.specs.declared.Block.{Block}
 use Rattle.lambukir.specs.Blocks.{underKey}
-use Rattle.permit.specs.Output as output
 use Rattle.permit.specs.Line.{lineNumber}
-use Rattle.permit.specs.declared.Written.{Written}
 use Rattle.permit.specs.declared.line.Line.{Line}
 use Rattle.permit.specs.declared.line.Line.the-variants as line
 use Rattle.permit.specs.declared.line.Record.{Record}
 use Rattle.lambukir.specs.declared.permits.LineRead.{LineRead}
-use Rattle.lambukir.specs.Permits.{textWritten, lineRead}
+use Rattle.lambukir.specs.Permits.{lineRead}
 
 abbrev answer : ℕ → ℕ → Block
 answer x n = record { block = x; number = n }
@@ -35,9 +33,6 @@ module _ (work : List ℕ → ℕ → ℕ) (key : List ℕ) (x : ℕ) where
       (w ∙ ap (λ (l : List ℕ). work l x) (s ∙ ap (λ (b : Bool). cond b (schedule key) before) key-is)
       ∙ ap (λ (b : Bool). cond b (work (schedule key) x) 0) (sym key-is))
       (sym z ∙ e)
-
-pub written-number : (a : Written) → textWritten a .number ≡ output.writtenNumber a
-written-number a = refl
 
 abbrev recordRead : Record → ℕ → LineRead
 recordRead r n = record {

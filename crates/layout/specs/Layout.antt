@@ -75,7 +75,7 @@ settingAt s t = record {
   server = numberAt 2 s (settingPlace t + 3);
 }
 
--- record i
+-- record i, under its full name
 unfoldable pub recordAt : List ℕ → ℕ → BookRecord
 recordAt s i = record {
   name = numberAt 9 s (recordPlace i);

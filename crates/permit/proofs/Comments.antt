@@ -9,7 +9,7 @@ use lib.ListN.{length, take, drop, length-drop}
 use lib.Seq.{take-all, take-length}
 use denote.Ref.{RefT, ptr, now}
 use Rattle.text.specs.Characters.{isPrintable}
-use Rattle.text.specs.NoChoice.{pointAt}
+use Rattle.text.specs.Places.{pointAt}
 use Rattle.text.proofs.Every.{either}
 use Rattle.text.proofs.TextsAt.{all-within}
 use Rattle.permit.specs.Line.{isLine, partsOf, shapeOf, editionLength, commentPlace, commentOf, commentAt, commentStart}

@@ -19,6 +19,7 @@ pub mod Along
 pub mod GoodCell
 pub mod LineSizes
 pub mod TailRead
+pub mod NamesAt
 pub mod GoodLine
 pub mod EditionTexts
 pub mod FieldsOfLines

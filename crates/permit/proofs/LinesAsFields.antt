@@ -3,55 +3,32 @@
 use mathlib.Core.Path.{_≡_, refl, sym, ap, _∙_}
 use mathlib.Core.Bool.{true}
 use mathlib.Core.List.{List, _∷_, _++_}
-use Prim.Native.Nat.{ℕ, zero, suc, _+_, _-_, _^_, _≤_, _<_}
+use Prim.Native.Nat.{ℕ, zero, suc, _+_, _-_, _≤_, _<_}
 use native.Mathlib.Nat.{add-zero, pow-le-pow-right}
 use native.Mathlib.Numerals.{add-one}
 use native.Mathlib.Omega.{arith}
-use borrow.Author.Tests.{eqb-true, lt-ltb}
+use borrow.Author.Tests.{eqb-true}
 use lib.ListN.{length, getD, drop, length-drop, take-append-drop}
 use lib.Seq.{drop-cons, drop-drop, take-all, getD-drop, getD-take}
-use Rattle.text.specs.Numbers.{Below, bytesOf, bytesNumber}
-use Rattle.text.specs.Characters.{isDigit, isHex, isNameCharacter, isPrintable, allOf, decimalText, decimalNumber}
+use Rattle.text.specs.Characters.{isDigit, isHex, isPrintable, allOf, decimalText, decimalNumber}
 use Rattle.text.specs.Places.{numberAt}
 use Rattle.text.specs.Texts.{part, allAt}
-use Rattle.text.proofs.Digits.{digits-value, value-below}
 use Rattle.text.proofs.Alphabets.{text-of-number, number-below}
 use Rattle.text.proofs.Notations.{decimal}
-use Rattle.text.proofs.NameTexts.{names-below}
-use Rattle.text.proofs.Places.{number-within, part-length}
+use Rattle.text.proofs.Places.{part-length}
 use Rattle.text.proofs.TextsAt.{all-within, all-there}
 use Rattle.dates.specs.Calendar.{isDate}
 use Rattle.dates.proofs.Bounds.{both}
-use Rattle.permit.specs.Identifiers.{isText}
 use Rattle.permit.specs.DateText.{isDateAt}
 use Rattle.permit.specs.CellPermit.{comma}
 use Rattle.permit.specs.Line.{commaAt, editionLength, expiryOf}
 use Rattle.permit.specs.LineFields.{LineFields, editionText, lineText, HexPart, AreFields, NoOtherLine}
+use Rattle.permit.proofs.NamesAt.{name-text, name-at}
 use Rattle.permit.proofs.GoodLine.{GoodLine, good-line}
 use Rattle.permit.proofs.ReadFields.{comma-within, leading-all, edition-few}
 use Rattle.permit.proofs.TailRead.{tailOf}
 use Rattle.permit.proofs.EditionTexts.{edition-text}
 use Rattle.permit.proofs.FieldsOfLines.{in-order}
-
--- the bytes of a name at a place are those of its number
-module _ (m : ℕ) (s : List ℕ) (at : ℕ) (all : allAt isNameCharacter m s at ≡ true) where
-  within : at + m ≤ length s
-  within = all-within isNameCharacter m s at all
-
-  below : Below 256 (part m s at)
-  below = names-below (part m s at) (all-there isNameCharacter m s at all)
-
-  name-text : bytesOf m (numberAt m s at) ≡ part m s at
-  name-text =
-      ap (bytesOf m) (number-within m s at within)
-      ∙ rw (part-length m s at within) at (digits-value (part m s at) below)
-
-  is-name : isText isNameCharacter m (numberAt m s at) ≡ true
-  unfolding isText
-  is-name =
-      let fits : bytesNumber (part m s at) < 256 ^ m = rw (part-length m s at within) at (value-below (part m s at) below) in
-      rw (name-text, number-within m s at within, lt-ltb (bytesNumber (part m s at)) (256 ^ m) fits)
-      (all-there isNameCharacter m s at all)
 
 hex-part : (s : List ℕ) (at : ℕ) → allAt isHex 16 s at ≡ true → HexPart (part 16 s at)
 hex-part s at all =
@@ -159,14 +136,14 @@ module _ (line : List ℕ) (good : GoodLine line) where
   are : AreFields fields
   are =
       record {
-        name = is-name 8 line 0 (good .name);
+        name = name-at 8 line 0 (good .name);
         expiry = date-tests line 8 (good .expiry) .1;
         key1 = hex-part line 16 (good .key1);
         key2 = hex-part line 32 (good .key2);
         check = hex-part line 48 (good .check);
         level = omega (arith, good .high);
         edition = edition-small;
-        server = is-name 2 line (68 + n) (good .server);
+        server = name-at 2 line (68 + n) (good .server);
         comment = comment-printable;
         size = omega (arith, ap length same, good .short);
       }

@@ -4,7 +4,9 @@ use mathlib.Core.Bool.{Bool, true, false}
 use mathlib.Core.List.{List, []}
 use Prim.Native.Nat.{ℕ, _^_, _≤_, _<_}
 use lib.ListN.{length, drop}
-use Rattle.text.specs.Texts.{part}
+use Rattle.text.specs.Characters.{isNameCharacter}
+use Rattle.text.specs.Places.{numberAt}
+use Rattle.text.specs.Texts.{part, allAt}
 use Rattle.text.specs.declared.numbers.Reading.the-variants.{Number, Wrong}
 use Rattle.permit.specs.Identifiers.{isText, isHwId}
 use Rattle.permit.specs.Output.{Output, refusal, Answered}
@@ -18,6 +20,10 @@ use Rattle.permit.specs.declared.line.CommentPlace.the-variants as comme
 -- the number of a text of n bytes is below 256 ^ n
 abbrev pub TextFits : Type 0
 TextFits = (test : ℕ → Bool) (n x : ℕ) → isText test n x ≡ true → x < 256 ^ n
+
+-- n characters A-Z 0-9 at a place are the text of the number there
+abbrev pub NameAt : Type 0
+NameAt = (n : ℕ) (s : List ℕ) (at : ℕ) → allAt isNameCharacter n s at ≡ true → isText isNameCharacter n (numberAt n s at) ≡ true
 
 -- a user permit that is read as a ship gives a HW_ID of the form
 abbrev pub ShipForm : Type 0

@@ -1,8 +1,8 @@
 -- What a call that writes gives: a text at the output's start, or a refusal that writes nothing.
-use mathlib.Core.Path.{_≡_}
 use mathlib.Core.List.{List, _++_}
 use Prim.Native.Nat.{ℕ}
 use lib.ListN.{length, drop}
+use Rattle.text.specs.NoChoice.{AnswerAndLent}
 use Rattle.permit.specs.declared.Written.{Written}
 use Rattle.permit.specs.declared.Written.the-variants as written
 
@@ -23,7 +23,7 @@ lentAfter (refusal n) out = out
 
 -- what a call answers and the lent output afterwards are those of what it gives
 abbrev pub Answered : Output → List ℕ → Written → List ℕ → Type 0
-Answered o before answer after = (answer ≡ writtenOf o) × (after ≡ lentAfter o before)
+Answered o before answer after = AnswerAndLent (writtenOf o) (lentAfter o before) answer after
 
 -- the answer's number: 0 for done
 abbrev pub writtenNumber : Written → ℕ

@@ -4,7 +4,7 @@ ghost use Prim.Native.Nat.{_≤_};
 ghost use lib.ListN.{getD};
 ghost use denote.Ref.{ptr};
 ghost use Rattle.text.specs.Characters.{isDigit};
-ghost use Rattle.text.specs.NoChoice.{pointAt};
+ghost use Rattle.text.specs.Places.{pointAt};
 ghost use Rattle.permit.specs.CellPermit.{shipWords, checkOf};
 ghost use Rattle.permit.specs.Line.{commaAt, editionLength, shapeOf, commentOf, commentAt, commentStart, keyUnder, givenNumber, readWith, readLine, lineNumber};
 ghost use Rattle.permit.specs.LineParts.{permitOf, isLevelPart, isServerPart, fieldsOf};

@@ -2,7 +2,7 @@
 -- or that its answer is this part of what it was lent.
 use mathlib.Core.Path.{_≡_}
 use mathlib.Core.List.{List}
-use Prim.Native.Nat.{ℕ, _+_}
+use Prim.Native.Nat.{ℕ}
 use denote.Ref.{RefT, ptr, now}
 
 -- one thing is promised, an answer or what a lent slice then holds: two things that the promise allows are equal
@@ -18,10 +18,6 @@ abbrev pub NoChoiceOfBoth : Type 1
 NoChoiceOfBoth =
     (A : Type 0) (answer a b : A) (lent out out′ : List ℕ)
     → AnswerAndLent answer lent a out → AnswerAndLent answer lent b out′ → (a ≡ b) × (out ≡ out′)
-
--- where a place of a lent slice is: in the same block of memory, so many elements on
-abbrev pub pointAt : RefT (List ℕ) → ℕ → ℕ × ℕ
-pointAt s at = (ptr s .0, ptr s .1 + at)
 
 -- a part of a lent slice: the bytes that it holds, and where it begins
 abbrev pub PartOfLent : List ℕ → ℕ × ℕ → RefT (List ℕ) → Type 0

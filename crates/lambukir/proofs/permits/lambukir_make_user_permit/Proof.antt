@@ -2,7 +2,6 @@
 use mathlib.Core.Path.{ap, _∙_}
 use Rattle.permit.specs.Output.{writtenNumber}
 use Rattle.lambukir.specs.declared.permits.TextWritten.{TextWritten}
-use Rattle.lambukir.proofs.Answers.{written-number}
 use borrow.Author.Needs.{needs}
 use Rattle.lambukir.proofs.permits.lambukir_make_user_permit.Statement.{statement}
 use Rattle.lambukir.proofs.permits.lambukir_make_user_permit.Tie as tie
@@ -19,7 +18,7 @@ same-length c = search needs
 returns : tie.Need-returns
 returns c =
     let making = c .before .before .before .make-user-permit .ensures in
-    (ap (λ (w : TextWritten). w .number) (c .text-written .ensures) ∙ written-number (c .before .before .before .make-user-permit .result) ∙ ap writtenNumber (making .0), making .1)
+    (ap (λ (w : TextWritten). w .number) (c .text-written .ensures) ∙ ap writtenNumber (making .0), making .1)
 
 pub lambukir-make-user-permit-spec : {M : Type 1} → statement M
 lambukir-make-user-permit-spec =
