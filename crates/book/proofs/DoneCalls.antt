@@ -10,7 +10,7 @@ use borrow.Author.Tests.{le-leb}
 use Rattle.permit.specs.Order.{demand}
 use Rattle.permit.specs.Identifiers.{isCellName}
 use Rattle.tenants.specs.declared.Held.{Held}
-use Rattle.tenants.specs.Cells.{withdrawn, cellOf}
+use Rattle.tenants.specs.Cells.{entered, withdrawn, cellOf}
 use Rattle.tenants.specs.Rules.{Own, Change, enters, withdraws, sets, refuses, changeNumber, isTenant, isDays, isHeld, isSome, entering, withdrawing, settingDays, asking, issuing}
 use Rattle.tenants.specs.Calls.{Call, enter, withdraw, setDays, changeOf}
 use Rattle.tenants.specs.Alone.{after}
@@ -70,88 +70,83 @@ module _ (s : List ℕ) (t name : ℕ) (undamaged : isBook s ≡ true) (tenant :
         rw (undamaged, order .registered, tenant, le-leb 76 room (order .roomy), is-name, order .date, le-leb level 1 (order .low), order .ship, absent);
   }
 
+-- a call on an undamaged book that gives tenant t these cells and leaves its setting
+module _ (s : List ℕ) (t : ℕ) (call : Call) (undamaged : isBook s ≡ true) (cells : List Held)
+    (does : after (changeOf t call (ownIn s t)) (ownIn s t) ≡ record { setting = ownIn s t .setting; cells = cells }) where
+  abbrev then : List ℕ
+  then = bookAfter t call s
+
+  setting-kept : ownIn then t .setting ≡ ownIn s t .setting
+  setting-kept = ap (λ (o : Own). o .setting) (own-then s t call undamaged ∙ does)
+
+  held-then : (name : ℕ) → cellOf name (ownIn then t .cells) ≡ cellOf name cells
+  held-then name = ap (λ (o : Own). cellOf name (o .cells)) (own-then s t call undamaged ∙ does)
+
+  leaves : (name : ℕ) → cellOf name cells ≡ cellOf name (ownIn s t .cells) → GivesTheSame s then t name
+  leaves name same = gives-the-same s then t name undamaged (still-undamaged s t call undamaged) setting-kept (held-then name ∙ same)
+
 -- entering
 module _ (s : List ℕ) (t : ℕ) (cell : Held) (done : changeNumber (entry s t cell) ≡ 0) where
-  abbrev then : List ℕ
-  then = enteredBook s t cell
-
-  passed : (isBook s ≡ true) × (changeNumber (entering t cell (ownIn s t)) ≡ 0)
+  entered-passed : (isBook s ≡ true) × (changeNumber (entering t cell (ownIn s t)) ≡ 0)
   unfolding entry
-  passed = not-refused (isBook s) 101 (entering t cell (ownIn s t)) (λ e. omega arith) done
+  entered-passed = not-refused (isBook s) 101 (entering t cell (ownIn s t)) (λ e. omega arith) done
 
   entered-so : (isTenant t ≡ true) × ((isHeld cell ≡ true) × (entering t cell (ownIn s t) ≡ enters cell))
   unfolding entering
   entered-so =
-      let one = not-refused (isTenant t) 102 _ (λ e. omega arith) (passed .1) in
+      let one = not-refused (isTenant t) 102 _ (λ e. omega arith) (entered-passed .1) in
       let two = not-refused (isHeld cell) 103 _ (λ e. omega arith) (one .1) in
       let three = not-refused (hasRoom cell (ownIn s t)) 105 (enters cell) (λ e. omega arith) (two .1) in
       (one .0, (two .0, rw (one .0, two .0, three .0) refl))
 
-  own-entered : ownIn then t ≡ after (enters cell) (ownIn s t)
-  own-entered = own-then s t (enter cell) (passed .0) ∙ ap (λ (c : Change). after c (ownIn s t)) (entered-so .1 .1)
-
-  setting-kept : ownIn then t .setting ≡ ownIn s t .setting
-  setting-kept = ap (λ (o : Own). o .setting) own-entered
-
-  undamaged-then : isBook then ≡ true
-  undamaged-then = still-undamaged s t (enter cell) (passed .0)
-
-  enter-gives : GivesCell then t (ownIn s t .setting) cell
-  enter-gives =
-      rw setting-kept at
-      (gives-cell then t cell undamaged-then (entered-so .0) (held-fits cell (entered-so .1 .0) .name)
-      (ap (λ (o : Own). cellOf (cell .name) (o .cells)) own-entered ∙ held-as-entered cell (ownIn s t .cells)))
-
-  enter-leaves : (name : ℕ) → (name ≡ cell .name → ⊥) → GivesTheSame s then t name
-  enter-leaves name other =
-      gives-the-same s then t name (passed .0) undamaged-then setting-kept
-      (ap (λ (o : Own). cellOf name (o .cells)) own-entered ∙ others-after-entering cell (ownIn s t .cells) name other)
+  enters-it : after (changeOf t (enter cell) (ownIn s t)) (ownIn s t) ≡ record { setting = ownIn s t .setting; cells = entered cell (ownIn s t .cells) }
+  enters-it = ap (λ (c : Change). after c (ownIn s t)) (entered-so .1 .1)
 
 pub enter-done : EnterDone
-enter-done s t cell done = (enter-gives s t cell done, (enter-leaves s t cell done, setting-kept s t cell done))
+enter-done s t cell done =
+    let undamaged = entered-passed s t cell done .0 in
+    let so = entered-so s t cell done in
+    let it = enters-it s t cell done in
+    let kept = setting-kept s t (enter cell) undamaged _ it in (
+      rw kept at
+          (gives-cell (enteredBook s t cell) t cell (still-undamaged s t (enter cell) undamaged) (so .0) (held-fits cell (so .1 .0) .name)
+          (held-then s t (enter cell) undamaged _ it (cell .name) ∙ held-as-entered cell (ownIn s t .cells))),
+      (λ name other. leaves s t (enter cell) undamaged _ it name (others-after-entering cell (ownIn s t .cells) name other), kept),
+    )
 
 -- withdrawing
 module _ (s : List ℕ) (t name : ℕ) (done : changeNumber (withdrawal s t name) ≡ 0) where
-  abbrev left : List ℕ
-  left = withdrawnBook s t name
-
-  was : (isBook s ≡ true) × (changeNumber (withdrawing t name (ownIn s t)) ≡ 0)
+  withdrawn-passed : (isBook s ≡ true) × (changeNumber (withdrawing t name (ownIn s t)) ≡ 0)
   unfolding withdrawal
-  was = not-refused (isBook s) 101 (withdrawing t name (ownIn s t)) (λ e. omega arith) done
+  withdrawn-passed = not-refused (isBook s) 101 (withdrawing t name (ownIn s t)) (λ e. omega arith) done
 
   withdrawn-so : (isTenant t ≡ true) × ((isCellName name ≡ true) × (withdrawing t name (ownIn s t) ≡ withdraws name))
   unfolding withdrawing
   withdrawn-so =
-      let one = not-refused (isTenant t) 102 _ (λ e. omega arith) (was .1) in
+      let one = not-refused (isTenant t) 102 _ (λ e. omega arith) (withdrawn-passed .1) in
       let two = not-refused (isCellName name) 103 _ (λ e. omega arith) (one .1) in
       let three = not-refused (isSome (cellOf name (ownIn s t .cells))) 104 (withdraws name) (λ e. omega arith) (two .1) in
       (one .0, (two .0, rw (one .0, two .0, three .0) refl))
 
-  own-left : ownIn left t ≡ after (withdraws name) (ownIn s t)
-  own-left = own-then s t (withdraw name) (was .0) ∙ ap (λ (c : Change). after c (ownIn s t)) (withdrawn-so .1 .1)
-
-  setting-left : ownIn left t .setting ≡ ownIn s t .setting
-  setting-left = ap (λ (o : Own). o .setting) own-left
-
-  undamaged-left : isBook left ≡ true
-  undamaged-left = still-undamaged s t (withdraw name) (was .0)
+  withdraws-it : after (changeOf t (withdraw name) (ownIn s t)) (ownIn s t) ≡ record { setting = ownIn s t .setting; cells = withdrawn name (ownIn s t .cells) }
+  withdraws-it = ap (λ (c : Change). after c (ownIn s t)) (withdrawn-so .1 .1)
 
   not-there : cellOf name (withdrawn name (ownIn s t .cells)) ≡ none
   unfolding ownOf
-  not-there = not-held-afterwards (bookOf s) t name (undamaged-says s (was .0) .0)
-
-  withdraw-gives : GivesNothing left t name
-  withdraw-gives =
-      gives-nothing left t name undamaged-left (withdrawn-so .0) (withdrawn-so .1 .0)
-      (ap (λ (o : Own). cellOf name (o .cells)) own-left ∙ not-there)
-
-  withdraw-leaves : (other : ℕ) → (other ≡ name → ⊥) → GivesTheSame s left t other
-  withdraw-leaves other apart =
-      gives-the-same s left t other (was .0) undamaged-left setting-left
-      (ap (λ (o : Own). cellOf other (o .cells)) own-left ∙ others-after-withdrawing (ownIn s t .cells) name other apart)
+  not-there = not-held-afterwards (bookOf s) t name (undamaged-says s (withdrawn-passed .0) .0)
 
 pub withdraw-done : WithdrawDone
-withdraw-done s t name done = (withdraw-gives s t name done, (withdraw-leaves s t name done, setting-left s t name done))
+withdraw-done s t name done =
+    let undamaged = withdrawn-passed s t name done .0 in
+    let so = withdrawn-so s t name done in
+    let it = withdraws-it s t name done in (
+      gives-nothing (withdrawnBook s t name) t name (still-undamaged s t (withdraw name) undamaged) (so .0) (so .1 .0)
+          (held-then s t (withdraw name) undamaged _ it name ∙ not-there s t name done),
+      (
+        λ other apart. leaves s t (withdraw name) undamaged _ it other (others-after-withdrawing (ownIn s t .cells) name other apart),
+        setting-kept s t (withdraw name) undamaged _ it,
+      ),
+    )
 
 -- setting days
 pub days-done : DaysDone
