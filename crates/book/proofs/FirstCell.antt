@@ -19,9 +19,9 @@ use Rattle.layout.specs.Layout.{usedLength, bookBytes}
 use Rattle.layout.proofs.Each.{each-is}
 use Rattle.layout.proofs.Fits.{book-fits}
 use Rattle.layout.proofs.ReadBack.{used-back}
-use Rattle.book.specs.Opening.{firstSetting, emptyBook, opened}
+use Rattle.opening.specs.Opening.{firstSetting, emptyBook, opened}
 use Rattle.book.specs.OnBook.{entry, bytesAfter}
-use Rattle.book.proofs.Opens.{opened-given, opens-empty}
+use Rattle.opening.proofs.Opens.{opened-given, opens-empty}
 
 module _ (quotas ids : List ℕ) (t : ℕ) (cell : Held) (tenant : isTenant t ≡ true) (roomy : 0 < getD quotas t 0) (held : isHeld cell ≡ true) where
   -- it is not refused

@@ -13,9 +13,6 @@ pub mod Undamaged
 pub mod Mixes
 pub mod Untouched
 pub mod QuotaRules
-pub mod Given
-pub mod FirstBook
-pub mod Opens
 pub mod FirstCell
 pub mod LineWritten
 pub mod Issues

@@ -15,8 +15,7 @@ use Rattle.tenants.specs.declared.Held.{Held}
 use Rattle.tenants.specs.Cells.{cellOf}
 use Rattle.tenants.specs.Rules.{isTenant, lineCell}
 use Rattle.tenants.specs.Calls.{Call, answerNumber}
-use Rattle.layout.specs.Layout.{bookOf, isBook}
-use Rattle.book.specs.Opening.{emptyBook, opened}
+use Rattle.layout.specs.Layout.{isBook}
 use Rattle.book.specs.OnBook.{ownIn, issuedFrom, checkedBy, answerIn, bookAfter}
 
 -- undamaged stays undamaged
@@ -30,12 +29,6 @@ OthersUntouched = (s : List ℕ) (t u : ℕ) (call : Call) → isBook s ≡ true
 -- a refusal leaves the book as it was, and so does every other answer whose number is not 0; of a damaged book too
 abbrev pub RefusalLeaves : Type 0
 RefusalLeaves = (s : List ℕ) (t : ℕ) (call : Call) → (answerNumber (answerIn t call s) ≡ 0 → ⊥) → bookAfter t call s ≡ s
-
--- opening gives an undamaged book with these settings and no cell
-abbrev pub OpensEmpty : Type 0
-OpensEmpty =
-    (quotas ids s book : List ℕ) → opened quotas ids s ≡ text book
-    → (isBook book ≡ true) × (bookOf book ≡ emptyBook quotas ids)
 
 -- what is issued for a ship is the line of the cell that is held under the name asked for, and the tenant's own check of it answers that cell
 -- with the notice of its own days

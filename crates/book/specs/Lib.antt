@@ -1,4 +1,3 @@
-pub mod Opening
 pub mod OnBook
 pub mod Issuing
 pub mod Mixed

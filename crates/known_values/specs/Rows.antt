@@ -14,7 +14,7 @@ use Rattle.permit.specs.Line.{givenNumber}
 use Rattle.permit.specs.Output.{text}
 use Rattle.tenants.specs.declared.Held.{Held}
 use Rattle.tenants.specs.Rules.{isTenant, isHeld}
-use Rattle.book.specs.Opening.{opened}
+use Rattle.opening.specs.Opening.{opened}
 use Rattle.book.specs.OnBook.{entry, bytesAfter}
 
 -- the kinds of rows, with what is given and then the result

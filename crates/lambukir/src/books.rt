@@ -4,7 +4,7 @@ ghost use lib.ListN.{length};
 ghost use Rattle.permit.specs.Output.{writtenOf, lentAfter};
 ghost use Rattle.permit.specs.Output as output;
 ghost use Rattle.tenants.specs.Rules.{changeNumber};
-ghost use Rattle.book.specs.Opening.{opened};
+ghost use Rattle.opening.specs.Opening.{opened};
 ghost use Rattle.book.specs.OnBook.{entry, withdrawal, newDays, bytesAfter, editionIn, issuedFrom, checkedBy};
 ghost use Rattle.lambukir.specs.Permits.{lineRead, textWritten};
 ghost use Rattle.lambukir.specs.Books.{heldOf, editionAsked};
@@ -27,7 +27,7 @@ pub extern "C" fn lambukir_open_book(book: &mut [u8], quotas: &[u16], ids: &[u8]
     ensures { λ r. ⌜ (r ≡ output.writtenNumber (writtenOf (opened (now (quotas .entry)) (now (ids .entry)) (now (book .entry)))))
         × (now (book .exit) ≡ lentAfter (opened (now (quotas .entry)) (now (ids .entry)) (now (book .entry))) (now (book .entry))) ⌝ }
 {
-    book::opening::open_book(book, quotas, ids)
+    opening::open_book(book, quotas, ids)
 }
 
 #[no_mangle]

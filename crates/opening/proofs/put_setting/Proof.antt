@@ -1,13 +1,13 @@
--- `book::opening::put_setting` meets its contract.
+-- `opening::put_setting` meets its contract.
 -- Assumes nothing.
 use mathlib.Core.Path.{ap, _∙_}
 use mathlib.Core.List.{List}
 use Prim.Native.Nat.{ℕ}
 use borrow.Author.Needs.{needs}
 use Rattle.text.specs.Texts.{placed}
-use Rattle.book.proofs.FirstBook.{six-bytes}
-use Rattle.book.proofs.opening.put_setting.Statement.{statement}
-use Rattle.book.proofs.opening.put_setting.Tie as tie
+use Rattle.opening.proofs.FirstBook.{six-bytes}
+use Rattle.opening.proofs.put_setting.Statement.{statement}
+use Rattle.opening.proofs.put_setting.Tie as tie
 
 cast-t7 : tie.Need-cast-t7
 cast-t7 c = search needs

@@ -7,7 +7,7 @@ ghost use Rattle.text.specs.Texts.{placed};
 ghost use Rattle.permit.specs.Output.{writtenNumber, writtenOf, lentAfter};
 ghost use Rattle.tenants.specs.Together.{quotaSum};
 ghost use Rattle.layout.specs.Layout.{settingsPlace, settingBytes, allBytes, bookSize, bookBytes, eachFrom, zeros};
-ghost use Rattle.book.specs.Opening.{firstSetting, emptyBook, areGiven, opened};
+ghost use Rattle.opening.specs.Opening.{firstSetting, emptyBook, areGiven, opened};
 use layout::BOOK_SIZE;
 use layout::SETTING_SIZE;
 use layout::SETTINGS_PLACE;

@@ -1,12 +1,12 @@
--- `book::opening::open_book` meets its contract.
+-- `opening::open_book` meets its contract.
 -- Assumes nothing.
 use mathlib.Core.Path.{sym, _∙_}
 use borrow.Author.Needs.{needs}
 use borrow.Author.Tests.{not-true, not-false}
-use Rattle.book.proofs.Given.{given-sixteen}
-use Rattle.book.proofs.FirstBook.{wrong-length, not-given, given}
-use Rattle.book.proofs.opening.open_book.Statement.{statement}
-use Rattle.book.proofs.opening.open_book.Tie as tie
+use Rattle.opening.proofs.Given.{given-sixteen}
+use Rattle.opening.proofs.FirstBook.{wrong-length, not-given, given}
+use Rattle.opening.proofs.open_book.Statement.{statement}
+use Rattle.opening.proofs.open_book.Tie as tie
 
 returns : tie.Need-returns
 returns c = wrong-length _ _ _ (c .if1 .taken)

@@ -1,10 +1,10 @@
--- `book::opening::are_given` meets its contract, test by test.
+-- `opening::are_given` meets its contract, test by test.
 -- Assumes nothing.
 use mathlib.Core.Path.{_∙_}
 use borrow.Author.Needs.{needs}
-use Rattle.book.proofs.Given.{not-sixteen, too-many, not-32, all-ids}
-use Rattle.book.proofs.opening.are_given.Statement.{statement}
-use Rattle.book.proofs.opening.are_given.Tie as tie
+use Rattle.opening.proofs.Given.{not-sixteen, too-many, not-32, all-ids}
+use Rattle.opening.proofs.are_given.Statement.{statement}
+use Rattle.opening.proofs.are_given.Tie as tie
 
 returns : tie.Need-returns
 returns c = not-sixteen _ _ (c .if1 .taken)

@@ -15,7 +15,7 @@ use Rattle.text.proofs.Every.{and-first}
 use Rattle.text.proofs.TextsAt.{all-inside}
 use Rattle.tenants.specs.Together.{quotaSum}
 use Rattle.layout.specs.Layout.{eachFrom}
-use Rattle.book.specs.Opening.{firstSetting, emptyBook, areGiven}
+use Rattle.opening.specs.Opening.{firstSetting, emptyBook, areGiven}
 
 -- the quotas do not hang on the IDs
 quotas-only : (quotas ids others : List ℕ) (t n : ℕ)

@@ -1,9 +1,9 @@
--- `book::opening::put_empty` meets its contract: zeros, and the start and the settings on them.
+-- `opening::put_empty` meets its contract: zeros, and the start and the settings on them.
 -- Assumes nothing.
 use borrow.Author.Needs.{needs}
-use Rattle.book.proofs.FirstBook.{empty-placed}
-use Rattle.book.proofs.opening.put_empty.Statement.{statement}
-use Rattle.book.proofs.opening.put_empty.Tie as tie
+use Rattle.opening.proofs.FirstBook.{empty-placed}
+use Rattle.opening.proofs.put_empty.Statement.{statement}
+use Rattle.opening.proofs.put_empty.Tie as tie
 
 clear-requires : tie.Need-clear-requires
 clear-requires c κs = search needs

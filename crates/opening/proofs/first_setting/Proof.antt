@@ -1,12 +1,12 @@
--- `book::opening::first_setting` meets its contract.
+-- `opening::first_setting` meets its contract.
 -- Assumes nothing.
 use mathlib.Core.Path.{ap}
 use Prim.Native.Nat.{ℕ}
 use native.Mathlib.Omega.{arith}
 use borrow.Author.Needs.{needs}
 use lib.ListN.{getD}
-use Rattle.book.proofs.opening.first_setting.Statement.{statement}
-use Rattle.book.proofs.opening.first_setting.Tie as tie
+use Rattle.opening.proofs.first_setting.Statement.{statement}
+use Rattle.opening.proofs.first_setting.Tie as tie
 
 mul-t4 : tie.Need-mul-t4
 mul-t4 c = search needs

@@ -17,7 +17,7 @@ use Rattle.tenants.specs.declared.Setting.{Setting}
 use Rattle.layout.specs.Layout.{bookSize, settingPlace, zeros, settingBytes, allBytes, bookBytes, eachFrom}
 use Rattle.layout.proofs.Each.{each-count}
 use Rattle.layout.proofs.Sizes.{setting-size, settings-size, book-size}
-use Rattle.book.specs.Opening.{firstSetting, emptyBook, areGiven, opened}
+use Rattle.opening.specs.Opening.{firstSetting, emptyBook, areGiven, opened}
 
 -- s is s₀ with zeros before place i
 pub record Cleared (s₀ s : List ℕ) (i : ℕ) : Type 0 where

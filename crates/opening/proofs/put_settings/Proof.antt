@@ -1,11 +1,11 @@
--- `book::opening::put_settings` meets its contract: the settings before that of tenant t are put.
+-- `opening::put_settings` meets its contract: the settings before that of tenant t are put.
 -- Assumes nothing.
 use Prim.Native.Nat.{_-_}
 use native.Mathlib.Omega.{arith}
 use borrow.Author.Needs.{needs}
-use Rattle.book.proofs.FirstBook.{SettingsPut, settings-none, settings-next, settings-all}
-use Rattle.book.proofs.opening.put_settings.Statement.{statement}
-use Rattle.book.proofs.opening.put_settings.Tie as tie
+use Rattle.opening.proofs.FirstBook.{SettingsPut, settings-none, settings-next, settings-all}
+use Rattle.opening.proofs.put_settings.Statement.{statement}
+use Rattle.opening.proofs.put_settings.Tie as tie
 
 abbrev Inv-loop : tie.InvT-loop
 Inv-loop book₀ quotas ids t₀ book t = SettingsPut quotas ids book₀ book t

@@ -1,5 +1,6 @@
 -- Opening: an empty book from sixteen quotas and Data Server IDs.
-use mathlib.Core.Bool.{Bool, _&&_}
+use mathlib.Core.Path.{_≡_}
+use mathlib.Core.Bool.{Bool, true, _&&_}
 use mathlib.Core.List.{List, []}
 use Prim.Native.Nat.{ℕ, _*_}
 use lib.Dec.{leb, eqb}
@@ -10,7 +11,7 @@ use Rattle.permit.specs.Order.{demand}
 use Rattle.permit.specs.Output.{Output, text, refusal}
 use Rattle.tenants.specs.declared.Setting.{Setting}
 use Rattle.tenants.specs.Together.{Book, quotaSum}
-use Rattle.layout.specs.Layout.{bookSize, bookBytes, eachFrom}
+use Rattle.layout.specs.Layout.{bookSize, bookBytes, bookOf, eachFrom, isBook}
 
 -- the setting of tenant t: its quota, warning days 30, and its two bytes of the IDs
 abbrev pub firstSetting : List ℕ → List ℕ → ℕ → Setting
@@ -31,3 +32,9 @@ opened quotas ids s =
     demand (eqb (length s) bookSize) (refusal 101)
     (demand (areGiven quotas ids) (refusal 103)
     (text (bookBytes (emptyBook quotas ids))))
+
+-- opening gives an undamaged book with these settings and no cell
+abbrev pub OpensEmpty : Type 0
+OpensEmpty =
+    (quotas ids s book : List ℕ) → opened quotas ids s ≡ text book
+    → (isBook book ≡ true) × (bookOf book ≡ emptyBook quotas ids)

@@ -1,12 +1,12 @@
--- `book::opening::clear` meets its contract: the bytes before place i are zero.
+-- `opening::clear` meets its contract: the bytes before place i are zero.
 -- Assumes nothing.
 use Prim.Native.Nat.{_-_}
 use native.Mathlib.Omega.{arith}
 use borrow.Author.Needs.{needs}
 use lib.ListN.{length}
-use Rattle.book.proofs.FirstBook.{Cleared, cleared-none, cleared-next, cleared-all}
-use Rattle.book.proofs.opening.clear.Statement.{statement}
-use Rattle.book.proofs.opening.clear.Tie as tie
+use Rattle.opening.proofs.FirstBook.{Cleared, cleared-none, cleared-next, cleared-all}
+use Rattle.opening.proofs.clear.Statement.{statement}
+use Rattle.opening.proofs.clear.Tie as tie
 
 abbrev Inv-loop : tie.InvT-loop
 Inv-loop book₀ i₀ book i = Cleared book₀ book i

@@ -23,8 +23,7 @@ use Rattle.tenants.proofs.Goodness.{Good, facts-good}
 use Rattle.layout.specs.Layout.{bookSize, bookBytes}
 use Rattle.layout.proofs.Each.{each-count, each-is}
 use Rattle.layout.proofs.Promises.{good-reads-back}
-use Rattle.book.specs.Opening.{firstSetting, emptyBook, areGiven, opened}
-use Rattle.book.specs.Kept.{OpensEmpty}
+use Rattle.opening.specs.Opening.{firstSetting, emptyBook, areGiven, opened, OpensEmpty}
 
 all-part : (test : ℕ → Bool) (n : ℕ) (s : List ℕ) (at : ℕ) → allOf test s ≡ true → allOf test (part n s at) ≡ true
 all-part test n s at all =

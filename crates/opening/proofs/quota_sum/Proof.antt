@@ -1,14 +1,14 @@
--- `book::opening::quota_sum` meets its contract: sixteen numbers of 16 bits stay far below 2^32.
+-- `opening::quota_sum` meets its contract: sixteen numbers of 16 bits stay far below 2^32.
 -- Assumes nothing.
 use mathlib.Core.Path.{refl}
 use mathlib.Core.List.{[]}
 use Prim.Native.Nat.{_-_}
 use native.Mathlib.Omega.{arith}
 use borrow.Author.Needs.{needs}
-use Rattle.book.specs.Opening.{firstSetting}
+use Rattle.opening.specs.Opening.{firstSetting}
 use Rattle.layout.proofs.QuotaSums.{Summed, summed-none, summed-next, summed-all}
-use Rattle.book.proofs.opening.quota_sum.Statement.{statement}
-use Rattle.book.proofs.opening.quota_sum.Tie as tie
+use Rattle.opening.proofs.quota_sum.Statement.{statement}
+use Rattle.opening.proofs.quota_sum.Tie as tie
 
 abbrev Inv-loop : tie.InvT-loop
 Inv-loop quotas sum₀ t₀ sum t = Summed (firstSetting quotas []) sum t
