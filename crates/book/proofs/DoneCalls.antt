@@ -19,11 +19,13 @@ use Rattle.tenants.proofs.Ranges.{held-fits}
 use Rattle.tenants.proofs.Allowed.{hasRoom}
 use Rattle.tenants.proofs.Apart.{own-after}
 use Rattle.tenants.proofs.OneList.{held-as-entered, others-after-entering, not-held-afterwards, others-after-withdrawing}
-use Rattle.layout.specs.Layout.{bookOf, isBook}
-use Rattle.layout.proofs.Promises.{undamaged-says}
-use Rattle.book.specs.OnBook.{ownIn, entry, withdrawal, newDays, bookAfter, editionIn, issuedFrom}
+use Rattle.layout.specs.Layout.{bookOf, isBook, ownIn}
+use Rattle.layout.proofs.Promises.{undamaged-says, good}
+use Rattle.changing.specs.Changing.{entry, withdrawal, newDays}
+use Rattle.asking.specs.Asking.{editionIn, issuedFrom}
+use Rattle.book.specs.OnBook.{bookAfter}
 use Rattle.book.specs.DoneCalls.{enteredBook, withdrawnBook, GivesTheSame, GivesCell, GivesNothing, EnterDone, WithdrawDone, DaysDone}
-use Rattle.book.proofs.Undamaged.{good, still-undamaged, book-after}
+use Rattle.book.proofs.Undamaged.{still-undamaged, book-after}
 use Rattle.book.proofs.Issues.{issued-line, line-checked}
 
 -- what is done was not refused

@@ -23,10 +23,10 @@ use Rattle.tenants.specs.declared.Setting.{Setting}
 use Rattle.tenants.specs.Cells.{cellOf}
 use Rattle.tenants.specs.Rules.{isTenant, isDays, lineCell, issuing, checking}
 use Rattle.tenants.proofs.Ordered.{found-name}
-use Rattle.layout.specs.Layout.{isBook}
-use Rattle.book.specs.OnBook.{ownIn, issuedFrom, checkedBy}
+use Rattle.layout.specs.Layout.{isBook, ownIn}
+use Rattle.asking.specs.Asking.{issuedFrom, checkedBy}
 use Rattle.book.specs.Kept.{IssuedReadsBack}
-use Rattle.book.proofs.LineWritten.{set-days, fits, cell-good}
+use Rattle.asking.proofs.LineWritten.{set-days, fits, cell-good}
 
 module _ (hw today days : ℕ) (form : isHwId hw ≡ true) (date : isDate today ≡ true) (right : isDays days ≡ true) where
   given-zero : givenNumber hw today days ≡ 0

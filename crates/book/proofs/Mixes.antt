@@ -12,7 +12,8 @@ use Rattle.tenants.proofs.MixedLists as lists
 use Rattle.layout.specs.Layout.{bookBytes, bookOf, isBook}
 use Rattle.book.specs.OnBook.{bookAfter}
 use Rattle.book.specs.Mixed.{afterAll, answersTo, Mixing, OwnAnswers, NothingElse}
-use Rattle.book.proofs.Undamaged.{good, written-so, answer-says, still-undamaged, book-after}
+use Rattle.layout.proofs.Promises.{good, written-so}
+use Rattle.book.proofs.Undamaged.{answer-says, still-undamaged, book-after}
 
 -- all calls on the bytes are all calls on the book that they say
 run-says : (made : List Made) (s : List ℕ) → isBook s ≡ true → afterAll made s ≡ bookBytes (run made (bookOf s))

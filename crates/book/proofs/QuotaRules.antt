@@ -14,11 +14,12 @@ use Rattle.tenants.proofs.Ranges.{tenant-below}
 use Rattle.tenants.proofs.Allowed.{Allowed, allowed}
 use Rattle.tenants.proofs.Counts.{withdrawn-fewer}
 use Rattle.tenants.proofs.Apart.{own-after}
-use Rattle.layout.specs.Layout.{bookOf, isBook}
-use Rattle.book.specs.OnBook.{ownIn, withdrawal, bytesAfter}
+use Rattle.layout.specs.Layout.{bookOf, isBook, ownIn}
+use Rattle.changing.specs.Changing.{withdrawal, bytesAfter}
 use Rattle.book.specs.Quotas.{QuotaDecides, HeldReplaced, RoomAgain}
-use Rattle.book.proofs.Undamaged.{good, still-undamaged, book-after}
-use Rattle.book.proofs.ChangeRules.{entry-full, entry-held, entry-roomy}
+use Rattle.layout.proofs.Promises.{good}
+use Rattle.book.proofs.Undamaged.{still-undamaged, book-after}
+use Rattle.changing.proofs.ChangeRules.{entry-full, entry-held, entry-roomy}
 
 pub quota-decides : QuotaDecides
 quota-decides s t cell undamaged tenant held new =

@@ -6,35 +6,14 @@ use mathlib.Core.List.{List}
 use Prim.Native.Nat.{ℕ}
 use Rattle.tenants.specs.Rules.{Change, enters, withdraws, sets, nothing, refuses, entering, withdrawing, settingDays}
 use Rattle.tenants.specs.Calls.{Call, enter, withdraw, setDays, askEdition, issue, check, changeOf, answerOf}
-use Rattle.tenants.specs.Together.{changed, isGood}
-use Rattle.tenants.proofs.Goodness.{Good, good-facts}
+use Rattle.tenants.specs.Together.{changed}
 use Rattle.tenants.proofs.KeptGood.{good-after}
-use Rattle.layout.specs.Layout.{bookBytes, bookOf, isBook}
-use Rattle.layout.proofs.Promises.{good-reads-back, undamaged-says}
-use Rattle.book.specs.OnBook.{
-  ownIn,
-  entry,
-  withdrawal,
-  newDays,
-  bytesAfter,
-  editionIn,
-  issuedFrom,
-  checkedBy,
-  answerIn,
-  bookAfter,
-}
+use Rattle.layout.specs.Layout.{bookBytes, bookOf, isBook, ownIn}
+use Rattle.layout.proofs.Promises.{good-reads-back, undamaged-says, written-so}
+use Rattle.changing.specs.Changing.{entry, withdrawal, newDays, bytesAfter}
+use Rattle.asking.specs.Asking.{editionIn, issuedFrom, checkedBy}
+use Rattle.book.specs.OnBook.{answerIn, bookAfter}
 use Rattle.book.specs.Kept.{StaysUndamaged}
-
-module _ (s : List ℕ) (undamaged : isBook s ≡ true) where
-  tested-good : isGood (bookOf s) ≡ true
-  tested-good = undamaged-says s undamaged .0
-
-  -- an undamaged book is good
-  pub good : Good (bookOf s)
-  good = good-facts (bookOf s) tested-good
-
-  pub written-so : bookBytes (bookOf s) ≡ s
-  written-so = undamaged-says s undamaged .1 .0
 
 module _ (s : List ℕ) (t : ℕ) (undamaged : isBook s ≡ true) where
   -- the answer goes by what is the tenant's own
@@ -67,11 +46,11 @@ module _ (s : List ℕ) (t : ℕ) (undamaged : isBook s ≡ true) where
 module _ (s : List ℕ) (t : ℕ) (call : Call) (undamaged : isBook s ≡ true) where
   pub still-undamaged : isBook (bookAfter t call s) ≡ true
   still-undamaged =
-      ap isBook (after-says s t undamaged call) ∙ good-reads-back _ (good-after t call (bookOf s) (tested-good s undamaged)) .0
+      ap isBook (after-says s t undamaged call) ∙ good-reads-back _ (good-after t call (bookOf s) (undamaged-says s undamaged .0)) .0
 
   -- what they say is the changed book
   pub book-after : bookOf (bookAfter t call s) ≡ changed t (changeOf t call (ownIn s t)) (bookOf s)
-  book-after = ap bookOf (after-says s t undamaged call) ∙ good-reads-back _ (good-after t call (bookOf s) (tested-good s undamaged)) .1
+  book-after = ap bookOf (after-says s t undamaged call) ∙ good-reads-back _ (good-after t call (bookOf s) (undamaged-says s undamaged .0)) .1
 
 pub stays-undamaged : StaysUndamaged
 stays-undamaged = still-undamaged

@@ -8,7 +8,7 @@ use Rattle.tenants.specs.Calls.{enter, withdraw, setDays, askEdition, issue, ch
 use Rattle.tenants.specs.Together.{ownOf}
 use Rattle.tenants.proofs.Apart.{other-after}
 use Rattle.layout.specs.Layout.{bookOf}
-use Rattle.book.specs.OnBook.{entry, withdrawal, newDays, bytesAfter}
+use Rattle.changing.specs.Changing.{entry, withdrawal, newDays, bytesAfter}
 use Rattle.book.specs.Kept.{OthersUntouched, RefusalLeaves}
 use Rattle.book.proofs.Undamaged.{book-after}
 

@@ -15,7 +15,9 @@ use Rattle.tenants.specs.declared.Held.{Held}
 use Rattle.tenants.specs.declared.Setting.{Setting}
 use Rattle.tenants.specs.declared.Asked.the-variants.{Edition, Refused}
 use Rattle.tenants.specs.Rules.{lineCell, changeNumber}
-use Rattle.book.specs.OnBook.{ownIn, entry, withdrawal, newDays, bytesAfter, editionIn, issuedFrom, checkedBy}
+use Rattle.layout.specs.Layout.{ownIn}
+use Rattle.changing.specs.Changing.{entry, withdrawal, newDays, bytesAfter}
+use Rattle.asking.specs.Asking.{editionIn, issuedFrom, checkedBy}
 
 -- the book after entering
 abbrev pub enteredBook : List ℕ → ℕ → Held → List ℕ

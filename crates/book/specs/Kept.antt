@@ -15,8 +15,9 @@ use Rattle.tenants.specs.declared.Held.{Held}
 use Rattle.tenants.specs.Cells.{cellOf}
 use Rattle.tenants.specs.Rules.{isTenant, lineCell}
 use Rattle.tenants.specs.Calls.{Call, answerNumber}
-use Rattle.layout.specs.Layout.{isBook}
-use Rattle.book.specs.OnBook.{ownIn, issuedFrom, checkedBy, answerIn, bookAfter}
+use Rattle.layout.specs.Layout.{isBook, ownIn}
+use Rattle.asking.specs.Asking.{issuedFrom, checkedBy}
+use Rattle.book.specs.OnBook.{answerIn, bookAfter}
 
 -- undamaged stays undamaged
 abbrev pub StaysUndamaged : Type 0

@@ -1,8 +1,5 @@
 pub mod OnBook
-pub mod Issuing
 pub mod Mixed
 pub mod Kept
 pub mod DoneCalls
 pub mod Quotas
-pub mod Moves
-pub mod Finding

@@ -6,8 +6,8 @@ use Prim.Native.Nat.{ℕ}
 use lib.Dec.{eqb}
 use Rattle.tenants.specs.Calls.{Call, Answer}
 use Rattle.tenants.specs.Alone.{Made, callsOf, answersAlone}
-use Rattle.layout.specs.Layout.{isBook}
-use Rattle.book.specs.OnBook.{ownIn, answerIn, bookAfter}
+use Rattle.layout.specs.Layout.{isBook, ownIn}
+use Rattle.book.specs.OnBook.{answerIn, bookAfter}
 
 -- the book after all calls
 unfoldable pub afterAll : List Made → List ℕ → List ℕ

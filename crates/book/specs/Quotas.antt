@@ -8,8 +8,8 @@ use lib.ListN.{length}
 use Rattle.tenants.specs.declared.Held.{Held}
 use Rattle.tenants.specs.Cells.{cellOf}
 use Rattle.tenants.specs.Rules.{enters, withdraws, refuses, isTenant, isHeld}
-use Rattle.layout.specs.Layout.{isBook}
-use Rattle.book.specs.OnBook.{ownIn, entry, withdrawal, bytesAfter}
+use Rattle.layout.specs.Layout.{isBook, ownIn}
+use Rattle.changing.specs.Changing.{entry, withdrawal, bytesAfter}
 
 -- a new name is refused, by 105, exactly when the tenant's own quota is used, however full the book is
 abbrev pub QuotaDecides : Type 0

@@ -15,7 +15,7 @@ use Rattle.permit.specs.Output.{text}
 use Rattle.tenants.specs.declared.Held.{Held}
 use Rattle.tenants.specs.Rules.{isTenant, isHeld}
 use Rattle.opening.specs.Opening.{opened}
-use Rattle.book.specs.OnBook.{entry, bytesAfter}
+use Rattle.changing.specs.Changing.{entry, bytesAfter}
 
 -- the kinds of rows, with what is given and then the result
 pub data Row : Type 0 where

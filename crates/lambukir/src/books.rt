@@ -5,7 +5,8 @@ ghost use Rattle.permit.specs.Output.{writtenOf, lentAfter};
 ghost use Rattle.permit.specs.Output as output;
 ghost use Rattle.tenants.specs.Rules.{changeNumber};
 ghost use Rattle.opening.specs.Opening.{opened};
-ghost use Rattle.book.specs.OnBook.{entry, withdrawal, newDays, bytesAfter, editionIn, issuedFrom, checkedBy};
+ghost use Rattle.changing.specs.Changing.{entry, withdrawal, newDays, bytesAfter};
+ghost use Rattle.asking.specs.Asking.{editionIn, issuedFrom, checkedBy};
 ghost use Rattle.lambukir.specs.Permits.{lineRead, textWritten};
 ghost use Rattle.lambukir.specs.Books.{heldOf, editionAsked};
 use super::permits::LineRead;
@@ -48,7 +49,7 @@ pub extern "C" fn lambukir_enter(
         key1,
         key2,
     };
-    book::changing::enter(book, tenant, cell)
+    changing::enter(book, tenant, cell)
 }
 
 #[no_mangle]
@@ -56,7 +57,7 @@ pub extern "C" fn lambukir_withdraw(book: &mut [u8], tenant: u32, name: u64) -> 
     ensures { λ r. ⌜ (r ≡ changeNumber (withdrawal (now (book .entry)) tenant name))
         × (now (book .exit) ≡ bytesAfter tenant (withdrawal (now (book .entry)) tenant name) (now (book .entry))) ⌝ }
 {
-    book::changing::withdraw(book, tenant, name)
+    changing::withdraw(book, tenant, name)
 }
 
 #[no_mangle]
@@ -64,14 +65,14 @@ pub extern "C" fn lambukir_set_days(book: &mut [u8], tenant: u32, days: u32) -> 
     ensures { λ r. ⌜ (r ≡ changeNumber (newDays (now (book .entry)) tenant days))
         × (now (book .exit) ≡ bytesAfter tenant (newDays (now (book .entry)) tenant days) (now (book .entry))) ⌝ }
 {
-    book::changing::set_days(book, tenant, days)
+    changing::set_days(book, tenant, days)
 }
 
 #[no_mangle]
 pub extern "C" fn lambukir_ask_edition(book: &[u8], tenant: u32, name: u64) -> EditionAsked
     ensures { λ r. ⌜ r ≡ editionAsked (editionIn (now (book .entry)) tenant name) ⌝ }
 {
-    match book::asking::ask_edition(book, tenant, name) {
+    match asking::ask_edition(book, tenant, name) {
         Asked::Edition(edition) => EditionAsked { edition, number: 0 },
         Asked::Refused(number) => EditionAsked { edition: 0, number },
     }
@@ -91,7 +92,7 @@ pub extern "C" fn lambukir_issue(
     ensures { λ r. ⌜ (r ≡ textWritten (writtenOf (issuedFrom (now (book .entry)) (now (register .entry)) tenant name expiry level (now (permit .entry)) (length (now (out .entry))))))
         × (now (out .exit) ≡ lentAfter (issuedFrom (now (book .entry)) (now (register .entry)) tenant name expiry level (now (permit .entry)) (length (now (out .entry)))) (now (out .entry))) ⌝ }
 {
-    text_written(book::asking::issue(book, register, tenant, name, expiry, level, permit, out))
+    text_written(asking::issue(book, register, tenant, name, expiry, level, permit, out))
 }
 
 #[no_mangle]
@@ -104,5 +105,5 @@ pub extern "C" fn lambukir_check(
 ) -> LineRead
     ensures { λ r. ⌜ r ≡ lineRead (checkedBy (now (book .entry)) tenant hw today (now (line .entry))) ⌝ }
 {
-    line_read(book::asking::check(book, tenant, hw, today, line))
+    line_read(asking::check(book, tenant, hw, today, line))
 }

@@ -1,12 +1,13 @@
--- How many records the bytes say, and each record and setting by its index.
+-- How many records the bytes say, each record and setting by its index, and that the setting of a tenant's number is its own.
 -- Assumes nothing.
 use mathlib.Core.Path.{_≡_}
 use mathlib.Core.List.{List}
-use Prim.Native.Nat.{ℕ, _<_}
+use Prim.Native.Nat.{ℕ, _≤_, _<_}
+use native.Mathlib.Omega.{arith}
 use lib.ListN.{length, getD}
-use Rattle.tenants.specs.Together.{BookRecord}
+use Rattle.tenants.specs.Together.{BookRecord, noSetting, ownOf}
 use Rattle.tenants.specs.declared.Setting.{Setting}
-use Rattle.layout.specs.Layout.{settingAt, recordAt, recordCount, bookOf}
+use Rattle.layout.specs.Layout.{settingAt, recordAt, recordCount, bookOf, ownIn}
 use Rattle.layout.proofs.Each.{each-count, each-is}
 
 module _ (s : List ℕ) where
@@ -18,6 +19,10 @@ module _ (s : List ℕ) where
   unfolding bookOf
   book-record i none h = each-is (recordAt s) (recordCount s) i none h
 
-  pub book-setting : (t : ℕ) (none : Setting) → t < 16 → getD (bookOf s .settings) t none ≡ settingAt s t
+  book-setting : (t : ℕ) (none : Setting) → t < 16 → getD (bookOf s .settings) t none ≡ settingAt s t
   unfolding bookOf
   book-setting t none h = each-is (settingAt s) 16 t none h
+
+  pub own-setting : (t : ℕ) → t ≤ 15 → ownIn s t .setting ≡ settingAt s t
+  unfolding ownOf
+  own-setting t few = book-setting t noSetting (omega arith)

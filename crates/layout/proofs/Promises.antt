@@ -2,6 +2,8 @@
 -- Assumes nothing.
 use mathlib.Core.Path.{_≡_, sym, ap, _∙_}
 use mathlib.Core.Bool.{true, _&&_}
+use mathlib.Core.List.{List}
+use Prim.Native.Nat.{ℕ}
 use borrow.Author.Tests.{eqb-true, eq-eqb}
 use lib.Dec.{eqb}
 use lib.ListN.{length}
@@ -9,6 +11,7 @@ use Rattle.text.specs.Texts.{sameText}
 use Rattle.text.proofs.Every.{and-first, and-second}
 use Rattle.text.proofs.SameTexts.{same-true, same-refl}
 use Rattle.tenants.specs.Together.{Book, isGood}
+use Rattle.tenants.proofs.Goodness.{Good, good-facts}
 use Rattle.layout.specs.Layout.{bookSize, bookBytes, bookOf, isBook}
 use Rattle.layout.specs.Readable.{GoodReadsBack, UndamagedSays}
 use Rattle.layout.proofs.Sizes.{book-size}
@@ -41,3 +44,12 @@ undamaged-says s undamaged =
       and-second (long && same) (isGood (bookOf s)) undamaged,
       (sym (same-true s (bookBytes (bookOf s)) (and-second long same both)), eqb-true (length s) bookSize (and-first long same both)),
     )
+
+module _ (s : List ℕ) (undamaged : isBook s ≡ true) where
+  -- what an undamaged book says is good
+  pub good : Good (bookOf s)
+  good = good-facts (bookOf s) (undamaged-says s undamaged .0)
+
+  -- and its bytes are those of what it says
+  pub written-so : bookBytes (bookOf s) ≡ s
+  written-so = undamaged-says s undamaged .1 .0

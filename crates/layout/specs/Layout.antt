@@ -8,7 +8,8 @@ use Rattle.text.specs.Numbers.{bytesOf}
 use Rattle.text.specs.Places.{numberAt}
 use Rattle.text.specs.Texts.{sameText}
 use Rattle.tenants.specs.declared.Setting.{Setting}
-use Rattle.tenants.specs.Together.{Book, BookRecord, full, isGood}
+use Rattle.tenants.specs.Rules.{Own}
+use Rattle.tenants.specs.Together.{Book, BookRecord, full, ownOf, isGood}
 
 -- how many bytes a setting has
 abbrev pub settingSize : ℕ
@@ -100,3 +101,7 @@ bookOf s = record { settings = eachFrom (settingAt s) 0 16; records = eachFrom (
 -- an undamaged book: 12,389 bytes, which are exactly those of what they say, and that is good
 unfoldable pub isBook : List ℕ → Bool
 isBook s = eqb (length s) bookSize && sameText s (bookBytes (bookOf s)) && isGood (bookOf s)
+
+-- what is tenant t's own in the book
+abbrev pub ownIn : List ℕ → ℕ → Own
+ownIn s t = ownOf t (bookOf s)

@@ -1,0 +1,2 @@
+pub mod AnswerRules
+pub mod LineWritten

@@ -1,0 +1,93 @@
+-- `asking::edition_in` meets its contract.
+-- Assumes nothing.
+use mathlib.Core.Path.{_≡_, sym, ap, _∙_}
+use mathlib.Core.Bool.{true}
+use mathlib.Core.List.{List}
+use Prim.Native.Nat.{ℕ, _<_}
+use borrow.Author.Needs.{needs}
+use borrow.Author.Tests.{not-true, not-false}
+use Rattle.permit.specs.Identifiers.{isCellName}
+use Rattle.tenants.specs.declared.Held.{Held}
+use Rattle.tenants.specs.declared.Asked.the-variants.{Edition}
+use Rattle.tenants.specs.Rules.{isTenant}
+use Rattle.tenants.specs.Together.{names}
+use Rattle.tenants.proofs.Ranges.{tenant-is, tenant-not}
+use Rattle.layout.specs.Layout.{ownIn}
+use Rattle.asking.proofs.AnswerRules.{asking-outside, asking-unfit, asking-absent, asking-held}
+use Rattle.records.proofs.OwnFound.{finds-held, finds-none}
+use Rattle.asking.proofs.edition_in.Statement.{statement}
+use Rattle.asking.proofs.edition_in.Tie as tie
+
+returns : tie.Need-returns
+returns c = sym (asking-outside _ _ _ (tenant-not _ (c .if1 .taken)))
+
+is-cell-name-requires : tie.Need-is-cell-name-requires
+is-cell-name-requires c κs = search needs
+
+returns-2 : tie.Need-returns-2
+returns-2 c =
+    sym
+    (asking-unfit _ _ _ (tenant-is _ (c .before .before .if1 .left)) (sym (c .before .is-cell-name .ensures) ∙ not-true _ (c .if2 .taken)))
+
+-- after the search
+module _ (f : tie.After-find) where
+  abbrev s : List ℕ
+  s = f .before .before .before .before .before .args .book .now
+
+  abbrev t : ℕ
+  t = f .before .before .before .before .before .args .tenant
+
+  abbrev name : ℕ
+  name = f .before .before .before .before .before .args .name
+
+  small : name < names
+  small = search needs
+
+  tenant : isTenant t ≡ true
+  tenant = tenant-is t (f .before .before .before .if1 .left)
+
+  fit : isCellName name ≡ true
+  fit = sym (f .before .before .is-cell-name .ensures) ∙ not-false _ (f .before .if2 .left)
+
+find-requires : tie.Need-find-requires
+find-requires c κs = search needs
+
+enum-known-i : tie.Need-enum-known-i
+enum-known-i c = search needs
+
+enum-told : tie.Need-enum-told
+enum-told c = search needs
+
+returns-3 : tie.Need-returns-3
+returns-3 c =
+    let f = c .before .before in
+    let start = f .before .before .before .before .before in
+    sym
+    (asking-absent (t f) (name f) (ownIn (s f) (t f)) (tenant f) (fit f)
+    (finds-none (s f) (t f) (name f) _ (start .pre) (small f) (sym (f .find .ensures) ∙ c .enum-told .given .1)))
+
+cell-at-requires : tie.Need-cell-at-requires
+cell-at-requires c κs = search needs
+
+returns-4 : tie.Need-returns-4
+returns-4 c =
+    let f = c .before .before .before .before in
+    let start = f .before .before .before .before .before in
+    ap (λ (cell : Held). Edition (cell .edition)) (c .cell-at .ensures)
+    ∙ sym
+    (asking-held (t f) (name f) (ownIn (s f) (t f)) (tenant f) (fit f) _
+    (finds-held (s f) (t f) (name f) _ (start .pre) (small f) (sym (f .find .ensures) ∙ c .before .before .i .given .1)))
+
+pub edition-in-spec : {M : Type 1} → statement M
+edition-in-spec =
+    tie.close
+    (tie.spec
+    returns
+    is-cell-name-requires
+    returns-2
+    find-requires
+    enum-known-i
+    enum-told
+    returns-3
+    cell-at-requires
+    returns-4)

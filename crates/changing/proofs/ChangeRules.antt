@@ -1,0 +1,113 @@
+-- What the rules make of entering, withdrawing and setting days, case by case, in the order of the refusals.
+-- Assumes nothing.
+use mathlib.Core.Path.{_≡_, sym, ap}
+use mathlib.Core.Bool.{true, false, or-true}
+use mathlib.Core.List.{List}
+use mathlib.Core.Option.{none, some}
+use Prim.Native.Nat.{ℕ, _≤_, _<_}
+use borrow.Author.Tests.{lt-ltb, le-ltb}
+use lib.ListN.{length}
+use Rattle.permit.specs.Identifiers.{isCellName}
+use Rattle.tenants.specs.declared.Held.{Held}
+use Rattle.tenants.specs.Cells.{cellOf}
+use Rattle.tenants.specs.Rules.{
+  Change,
+  enters,
+  withdraws,
+  sets,
+  refuses,
+  changeNumber,
+  isTenant,
+  isDays,
+  isHeld,
+  isSome,
+  entering,
+  withdrawing,
+  settingDays,
+}
+use Rattle.layout.specs.Layout.{isBook, ownIn}
+use Rattle.changing.specs.Changing.{entry, withdrawal, newDays, bytesAfter}
+
+-- a call that does a change, and answers its number
+abbrev pub Does : ℕ → List ℕ → Change → ℕ → List ℕ → Type 0
+Does t s change r after = (r ≡ changeNumber change) × (after ≡ bytesAfter t change s)
+
+-- a refusal answers its number and leaves the bytes
+pub refused : (t : ℕ) (s : List ℕ) (change : Change) (n : ℕ) → change ≡ refuses n → Does t s change n s
+refused t s change n e = (sym (ap changeNumber e), sym (ap (λ (c : Change). bytesAfter t c s) e))
+
+-- what does one change does an equal one
+pub does-same : (t : ℕ) (s after : List ℕ) (change same : Change) (r : ℕ) → change ≡ same → Does t s same r after → Does t s change r after
+does-same t s after change same r e does = rw e does
+
+module _ (s : List ℕ) (t : ℕ) (cell : Held) where
+  pub entry-damaged : isBook s ≡ false → entry s t cell ≡ refuses 101
+  unfolding entry
+  entry-damaged damaged = rw damaged
+
+  module _ (undamaged : isBook s ≡ true) where
+    pub entry-outside : isTenant t ≡ false → entry s t cell ≡ refuses 102
+    unfolding entry entering
+    entry-outside outside = rw (undamaged, outside)
+
+    module _ (tenant : isTenant t ≡ true) where
+      pub entry-unfit : isHeld cell ≡ false → entry s t cell ≡ refuses 103
+      unfolding entry entering
+      entry-unfit unfit = rw (undamaged, tenant, unfit)
+
+      module _ (fit : isHeld cell ≡ true) where
+        pub entry-full : cellOf (cell .name) (ownIn s t .cells) ≡ none → ownIn s t .setting .quota ≤ length (ownIn s t .cells)
+            → entry s t cell ≡ refuses 105
+        unfolding entry entering
+        entry-full absent full = rw (undamaged, tenant, fit, absent, le-ltb _ _ full)
+
+        pub entry-held : (it : Held) → cellOf (cell .name) (ownIn s t .cells) ≡ some it → entry s t cell ≡ enters cell
+        unfolding entry entering
+        entry-held it held = rw (undamaged, tenant, fit, held)
+
+        pub entry-roomy : length (ownIn s t .cells) < ownIn s t .setting .quota → entry s t cell ≡ enters cell
+        unfolding entry entering
+        entry-roomy room = rw (undamaged, tenant, fit, lt-ltb _ _ room, or-true (isSome (cellOf (cell .name) (ownIn s t .cells))))
+
+module _ (s : List ℕ) (t name : ℕ) where
+  pub withdrawal-damaged : isBook s ≡ false → withdrawal s t name ≡ refuses 101
+  unfolding withdrawal
+  withdrawal-damaged damaged = rw damaged
+
+  module _ (undamaged : isBook s ≡ true) where
+    pub withdrawal-outside : isTenant t ≡ false → withdrawal s t name ≡ refuses 102
+    unfolding withdrawal withdrawing
+    withdrawal-outside outside = rw (undamaged, outside)
+
+    module _ (tenant : isTenant t ≡ true) where
+      pub withdrawal-unfit : isCellName name ≡ false → withdrawal s t name ≡ refuses 103
+      unfolding withdrawal withdrawing
+      withdrawal-unfit unfit = rw (undamaged, tenant, unfit)
+
+      module _ (fit : isCellName name ≡ true) where
+        pub withdrawal-absent : cellOf name (ownIn s t .cells) ≡ none → withdrawal s t name ≡ refuses 104
+        unfolding withdrawal withdrawing
+        withdrawal-absent absent = rw (undamaged, tenant, fit, absent)
+
+        pub withdrawal-held : (it : Held) → cellOf name (ownIn s t .cells) ≡ some it → withdrawal s t name ≡ withdraws name
+        unfolding withdrawal withdrawing
+        withdrawal-held it held = rw (undamaged, tenant, fit, held)
+
+module _ (s : List ℕ) (t days : ℕ) where
+  pub days-damaged : isBook s ≡ false → newDays s t days ≡ refuses 101
+  unfolding newDays
+  days-damaged damaged = rw damaged
+
+  module _ (undamaged : isBook s ≡ true) where
+    pub days-outside : isTenant t ≡ false → newDays s t days ≡ refuses 102
+    unfolding newDays settingDays
+    days-outside outside = rw (undamaged, outside)
+
+    module _ (tenant : isTenant t ≡ true) where
+      pub days-unfit : isDays days ≡ false → newDays s t days ≡ refuses 103
+      unfolding newDays settingDays
+      days-unfit unfit = rw (undamaged, tenant, unfit)
+
+      pub days-fit : isDays days ≡ true → newDays s t days ≡ sets days
+      unfolding newDays settingDays
+      days-fit fit = rw (undamaged, tenant, fit)

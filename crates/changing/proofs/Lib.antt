@@ -1,0 +1,3 @@
+pub mod ChangeRules
+pub mod Days
+pub mod Done

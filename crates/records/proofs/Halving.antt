@@ -1,0 +1,114 @@
+-- The place of a full name among records in order: how one record's name bounds it, whether it is held there, and how many cells lie between two.
+-- Assumes nothing.
+use mathlib.Core.Path.{_≡_, refl, sym}
+use mathlib.Core.Bool.{_&&_}
+use mathlib.Core.List.{List, [], _∷_}
+use Prim.Native.Nat.{ℕ, zero, suc, _+_, _≤_, _<_, suc-le-suc}
+use native.Mathlib.Nat.{le-of-suc-le-suc, not-suc-le-zero}
+use native.Mathlib.Omega.{arith}
+use borrow.Author.Tests.{ltb-true, ltb-false, lt-ltb, eq-eqb, ne-eqb}
+use lib.Dec.{ltb, eqb}
+use lib.ListN.{length, getD}
+use Rattle.text.proofs.Every.{either, same-tests}
+use Rattle.tenants.specs.Cells.{cellOf}
+use Rattle.tenants.specs.Rules.{isSome}
+use Rattle.tenants.specs.Together.{BookRecord, fullName, tenantOf, cellsOf}
+use Rattle.tenants.proofs.Ordered.{Above, Sorted, Stands, before, same, behind, stands, above-lower, found-here, found-later, absent-above}
+use Rattle.tenants.proofs.OwnCells.{cells-mine, cells-not}
+use Rattle.records.proofs.Found.{placeOf, place-here, place-later}
+
+above-at : (k : ℕ) (records : List BookRecord) (d : BookRecord) (i : ℕ) → Above k records → i < length records → k < getD records i d .name
+above-at k [] d i above h = absurd (not-suc-le-zero h)
+above-at k (r ∷ records) d zero above h = above .0
+above-at k (r ∷ records) d (suc i) above h = above-at k records d i (above .1) (le-of-suc-le-suc h)
+
+module _ (full : ℕ) (d : BookRecord) where
+  -- where record i comes before the name, the place is after it
+  pub place-after : (records : List BookRecord) (i : ℕ) → Sorted records → i < length records → getD records i d .name < full → i < placeOf full records
+  place-after [] i sorted h low = absurd (not-suc-le-zero h)
+  place-after (r ∷ records) zero sorted h low = rw (place-later full r records low) (omega arith)
+  place-after (r ∷ records) (suc i) sorted h low =
+      let inside : i < length records = le-of-suc-le-suc h in
+      let first : r .name < getD records i d .name = above-at (r .name) records d i (sorted .0) inside in
+      rw (place-later full r records (omega arith)) (suc-le-suc (place-after records i (sorted .1) inside low))
+
+  -- and where it does not, the place is not after it
+  pub place-up-to : (records : List BookRecord) (i : ℕ) → i < length records → full ≤ getD records i d .name → placeOf full records ≤ i
+  place-up-to [] i h high = absurd (not-suc-le-zero h)
+  place-up-to (r ∷ records) zero h high = rw (place-here full r records high) (omega arith)
+  place-up-to (r ∷ records) (suc i) h high =
+      either (ltb (r .name) full)
+      (λ low. rw (place-later full r records (ltb-true _ _ low)) (suc-le-suc (place-up-to records i (le-of-suc-le-suc h) high)))
+      (λ up. rw (place-here full r records (ltb-false _ _ up)) (omega arith))
+
+  -- the name is held where the record at its place has it
+  pub held-there : (records : List BookRecord) → Sorted records
+      → isSome (cellOf full records) ≡ (ltb (placeOf full records) (length records) && eqb (getD records (placeOf full records) d .name) full)
+  unfolding placeOf cellOf
+  held-there [] sorted = refl
+  held-there (r ∷ records) sorted = go (stands full (r .name)) (held-there records (sorted .1))
+    where
+      go : Stands full (r .name)
+          → isSome (cellOf full records) ≡ (ltb (placeOf full records) (length records) && eqb (getD records (placeOf full records) d .name) full)
+          → isSome (cellOf full (r ∷ records))
+          ≡ (ltb (placeOf full (r ∷ records)) (length (r ∷ records)) && eqb (getD (r ∷ records) (placeOf full (r ∷ records)) d .name) full)
+      go (before m) ih =
+          rw (
+            absent-above full (r ∷ records) (m, above-lower full (r .name) records (omega arith) (sorted .0)),
+            place-here full r records (omega arith),
+            ne-eqb (r .name) full (λ e. omega arith),
+            lt-ltb 0 (suc (length records)) (omega arith),
+          ) refl
+      go (same m) ih =
+          rw (
+            found-here full r records m,
+            place-here full r records (omega arith),
+            eq-eqb (r .name) full (sym m),
+            lt-ltb 0 (suc (length records)) (omega arith),
+          ) refl
+      go (behind m) ih =
+          rw (found-later full r records (λ e. omega arith), place-later full r records m, one-more (placeOf full records) (length records)) ih
+        where
+          one-more : (p n : ℕ) → ltb (suc p) (suc n) ≡ ltb p n
+          one-more p n =
+              same-tests (ltb (suc p) (suc n)) (ltb p n)
+              (λ e. lt-ltb p n (le-of-suc-le-suc (ltb-true _ _ e)))
+              (λ e. lt-ltb (suc p) (suc n) (suc-le-suc (ltb-true _ _ e)))
+
+pub place-within : (full : ℕ) (records : List BookRecord) → placeOf full records ≤ length records
+unfolding placeOf
+place-within full [] = omega arith
+place-within full (r ∷ records) =
+    either (ltb (r .name) full)
+    (λ low. rw low (suc-le-suc (place-within full records)))
+    (λ up. rw up (omega arith))
+
+-- the tenant's cells lie from the place of its first name to that of the next tenant's
+module _ (t : ℕ) where
+  abbrev first : ℕ
+  first = fullName t 0
+
+  abbrev next : ℕ
+  next = fullName (t + 1) 0
+
+  none-below : (full k : ℕ) (records : List BookRecord) → full ≤ k → Above k records → placeOf full records ≡ 0
+  unfolding placeOf
+  none-below full k [] h above = refl
+  none-below full k (r ∷ records) h above = let a : k < r .name = above .0 in place-here full r records (omega arith)
+
+  pub cells-between : (records : List BookRecord) → Sorted records → length (cellsOf t records) + placeOf first records ≡ placeOf next records
+  unfolding placeOf cellsOf
+  cells-between [] sorted = refl
+  cells-between (r ∷ records) sorted = go (stands (tenantOf r) t) (cells-between records (sorted .1))
+    where
+      go : Stands (tenantOf r) t → length (cellsOf t records) + placeOf first records ≡ placeOf next records
+          → length (cellsOf t (r ∷ records)) + placeOf first (r ∷ records) ≡ placeOf next (r ∷ records)
+      go (before m) ih =
+          rw (cells-not t r records (λ e. omega arith), place-later first r records (omega arith), place-later next r records (omega arith))
+          (omega arith)
+      go (same m) ih =
+          rw (cells-mine t r records m, place-here first r records (omega arith), place-later next r records (omega arith))
+          (omega (arith, none-below first (r .name) records (omega arith) (sorted .0)))
+      go (behind m) ih =
+          rw (cells-not t r records (λ e. omega arith), place-here first r records (omega arith), place-here next r records (omega arith))
+          (omega (arith, none-below next (r .name) records (omega arith) (sorted .0)))

@@ -1,0 +1,11 @@
+pub mod Found
+pub mod Halving
+pub mod RecordParts
+pub mod Searching
+pub mod OwnFound
+pub mod Shifts
+pub mod Writes
+pub mod Around
+pub mod Rewritten
+pub mod Guarded
+pub mod Changes

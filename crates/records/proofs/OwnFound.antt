@@ -1,0 +1,63 @@
+-- What the search tells of an undamaged book's records and of a tenant's own cells.
+-- Assumes nothing.
+use mathlib.Core.Path.{_≡_, sym, ap, _∙_}
+use mathlib.Core.Bool.{true}
+use mathlib.Core.List.{List}
+use mathlib.Core.Option.{none, some}
+use Prim.Native.Nat.{ℕ, _≤_, _<_}
+use native.Mathlib.Omega.{arith}
+use lib.ListN.{length, getD, length-append}
+use lib.Seq.{getD-at}
+use Rattle.tenants.specs.Cells.{cellOf}
+use Rattle.tenants.specs.Together.{cellIn, BookRecord, names, fullName, nameOf, named, ownOf}
+use Rattle.tenants.proofs.OwnCells.{cell-found, cell-absent}
+use Rattle.layout.specs.Layout.{recordAt, recordCount, bookOf, isBook, ownIn}
+use Rattle.layout.proofs.Indexed.{book-count, book-record}
+use Rattle.layout.proofs.Promises.{good}
+use Rattle.records.specs.declared.finding.Found.the-variants.{At, Absent}
+use Rattle.records.specs.Finding.{searched, FindsHeld, FindsNone}
+use Rattle.records.proofs.Found.{Here, Gone, found-at, found-absent}
+use Rattle.records.proofs.Searching.{search-says}
+
+module _ (s : List ℕ) (undamaged : isBook s ≡ true) (t name i : ℕ) where
+  module _ (found : searched s (fullName t name) ≡ At i) where
+    pub here : Here (fullName t name) (bookOf s .records) i
+    here = found-at (fullName t name) (bookOf s .records) i (good s undamaged .sorted)
+        (sym (search-says s undamaged (fullName t name)) ∙ found)
+
+    -- the place lies among the records
+    pub found-within : i < recordCount s
+    found-within = omega (arith, here .place, book-count s, simp length-append at (ap length (here .whole)))
+
+    it-is : here .it ≡ recordAt s i
+    it-is =
+        sym (getD-at (here .front) (here .it) (here .back) (here .it) i (here .place))
+        ∙ ap (λ (l : List BookRecord). getD l i (here .it)) (sym (here .whole))
+        ∙ book-record s i (here .it) found-within
+
+    cell-there : name < names → cellOf name (ownIn s t .cells) ≡ some (cellIn (recordAt s i))
+    unfolding ownOf
+    cell-there small =
+        let name-is : name ≡ nameOf (here .it) = omega (arith, here .name) in
+        cell-found t name small (bookOf s .records) (here .it) (here .held)
+        ∙ ap (λ (n : ℕ). some (named n (here .it))) name-is
+        ∙ ap (λ (r : BookRecord). some (cellIn r)) it-is
+
+  module _ (found : searched s (fullName t name) ≡ Absent i) where
+    pub gone : Gone (fullName t name) (bookOf s .records) i
+    gone = found-absent (fullName t name) (bookOf s .records) i (good s undamaged .sorted)
+        (sym (search-says s undamaged (fullName t name)) ∙ found)
+
+    -- the place lies among the records or after the last
+    pub absent-within : i ≤ recordCount s
+    absent-within = omega (arith, gone .place, book-count s, simp length-append at (ap length (gone .whole)))
+
+    no-cell : name < names → cellOf name (ownIn s t .cells) ≡ none
+    unfolding ownOf
+    no-cell small = cell-absent t name small (bookOf s .records) (gone .absent)
+
+pub finds-held : FindsHeld
+finds-held s t name i undamaged small found = cell-there s undamaged t name i found small
+
+pub finds-none : FindsNone
+finds-none s t name i undamaged small found = no-cell s undamaged t name i found small

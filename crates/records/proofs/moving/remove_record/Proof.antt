@@ -1,0 +1,82 @@
+-- `records::moving::remove_record` meets its contract: the gap is closed, and the used length written; or nothing.
+-- Assumes nothing.
+use mathlib.Core.Logic.{⊎-elim}
+use Prim.Native.Nat.{_≤_}
+use native.Mathlib.Omega.{arith}
+use borrow.Author.Needs.{needs}
+use borrow.Author.Tests.{leb-true, leb-false}
+use Rattle.records.proofs.Searching.{count-most}
+use Rattle.records.proofs.Guarded.{taken-out, none-there, not-within}
+use Rattle.records.proofs.moving.remove_record.Statement.{statement}
+use Rattle.records.proofs.moving.remove_record.Tie as tie
+
+count-requires : tie.Need-count-requires
+count-requires c κs = search needs
+
+-- so many records at most are told
+few : (k : tie.After-count) → k .count .result ≤ 178956966
+few k =
+    let known = k .before .before in
+    omega (arith, k .count .ensures, count-most (known .before .args .book .now) (λ j. omega (arith, known .slice-known .given j)))
+
+mul-used : tie.Need-mul-used
+mul-used c = omega (arith, few c)
+
+add-used : tie.Need-add-used
+add-used c = omega (arith, few c)
+
+mul-close-gap : tie.Need-mul-close-gap
+mul-close-gap c = search needs
+
+add-close-gap : tie.Need-add-close-gap
+add-close-gap c = search needs
+
+close-gap-requires : tie.Need-close-gap-requires
+close-gap-requires c κs = search needs
+
+sub-put-used : tie.Need-sub-put-used
+sub-put-used c = search needs
+
+put-used-requires : tie.Need-put-used-requires
+put-used-requires c κs = search needs
+
+same-length : tie.Need-same-length
+same-length c = search needs
+
+returns : tie.Need-returns
+returns c =
+    let written = c .before .before in
+    let closed = written .before .before .before .before in
+    let test = closed .before .before in
+    let counted = test .before .before in
+    let start = counted .before .before .before .args in
+    taken-out (start .book .now) _ (start .i) (counted .count .ensures) (test .before .if1 .taken) (leb-true _ _ (test .if2 .taken))
+    (closed .close-gap .last .0) _ (closed .close-gap .ensures) (written .put-used .ensures)
+
+same-length-2 : tie.Need-same-length-2
+same-length-2 c = search needs
+
+returns-2 : tie.Need-returns-2
+returns-2 c =
+    let start = c .before .before .before .before .args in
+    ⊎-elim
+    (λ w. not-within (start .book .now) _ (start .i) (c .before .count .ensures) (leb-false _ _ (w .1 .left)) (w .0 .taken))
+    (λ w. none-there (start .book .now) _ (start .i) (c .before .count .ensures) (w .left))
+    (c .if1 .came)
+
+pub remove-record-spec : {M : Type 1} → statement M
+remove-record-spec =
+    tie.close
+    (tie.spec
+    count-requires
+    mul-used
+    add-used
+    mul-close-gap
+    add-close-gap
+    close-gap-requires
+    sub-put-used
+    put-used-requires
+    same-length
+    returns
+    same-length-2
+    returns-2)
