@@ -1,74 +1,94 @@
-# make run      prove look-through and library, look through the sample PERMIT.TXT, and show the desk at work
+# make run      prove the look-through and the library, look through the sample PERMIT.TXT, and show the desk at work
 # make test     the whole gate: every proof, then the comparisons with programs of others
 # make bench    our cipher, checksum, permits, book and look-through beside OpenSSL's, zlib's and plain C
 # make lib      target/staticlib/liblambukir.a and target/include/lambukir.h, for C
 # make install  the library, its header and its pkg-config file below PREFIX, or below DESTDIR and PREFIX
+# make help     this list
 
 CC = tests/x86-64 gcc
 CFLAGS = -std=c11 -O2 -Wall -Wextra -Werror
-LDLIBS = target/staticlib/liblambukir.a target/staticlib/libprobe.a -lcrypto -lz
+LIBRARY = target/staticlib/liblambukir.a
+PROBE = target/staticlib/libprobe.a
+HEADER = target/include/lambukir.h
 PREFIX = /usr/local
 VERSION = 0.4.0
 
-COMPARISONS = blowfish book crc32 dates files lines look_through permits text writing
+COMPARISONS = $(basename $(notdir $(shell grep -l run_subjects tests/*.c)))
 MODEL = target/tests/model.o target/tests/model_book.o target/tests/model_file.o
 
-.PHONY: run test bench lib install packages probe look_through comparisons
-.NOTPARALLEL:
+# what a crate is made of: its own files and those of all that it uses, and their folders, which tell of a file taken away
+files_of = crates.txt $(shell find $$(tests/crates $(1) | sed 's|^|crates/|') -name must-fail -prune -o -print)
 
-run: look_through target/sample/desk
+.PHONY: help run test bench lib install proved comparisons
+
+help:
+	@sed -n '/^$$/q; s/^# //p' Makefile
+
+run: target/packages proved target/sample/desk
+	@printf '\nThe look-through of sample/PERMIT.TXT:\n\n'
 	@sample/look_through
+	@printf '\nThe desk at work:\n\n'
 	@tests/x86-64 target/sample/desk
 
 test:
 	@tests/run
 
-bench: target/bench/bench target/bench/look_through
+bench: target/bench/bench target/bench/look_through target/bin/look_through
 	@[ "$$(uname -m)" = x86_64 ] || echo "the library is for x86-64: here an emulator runs it, and the figures say nothing"
 	tests/x86-64 target/bench/bench
 
-lib:
-	rt staticlib lambukir
-	mkdir -p target/include
-	cp include/lambukir.h target/include/lambukir.h
+lib: $(LIBRARY) $(HEADER)
 
 install: lib
 	install -d '$(DESTDIR)$(PREFIX)/include' '$(DESTDIR)$(PREFIX)/lib/pkgconfig'
 	install -m 644 include/lambukir.h '$(DESTDIR)$(PREFIX)/include/lambukir.h'
-	install -m 644 target/staticlib/liblambukir.a '$(DESTDIR)$(PREFIX)/lib/liblambukir.a'
+	install -m 644 $(LIBRARY) '$(DESTDIR)$(PREFIX)/lib/liblambukir.a'
 	printf '%s\n' 'prefix=$(PREFIX)' 'includedir=$${prefix}/include' 'libdir=$${prefix}/lib' '' \
 		'Name: lambukir' 'Description: S-63 user permits, cell permits, PERMIT.TXT files and the book of cell keys' 'Version: $(VERSION)' \
 		'Cflags: -I$${includedir}' 'Libs: -L$${libdir} -llambukir' >'$(DESTDIR)$(PREFIX)/lib/pkgconfig/lambukir.pc'
 
-# what the comparisons and the benchmark need of others
-packages:
-	tests/packages
+# program and library in one count
+proved:
+	@tests/prove look_through lambukir
+
+target/bin/look_through: $(call files_of,look_through)
+	@tests/prove look_through
+
+$(LIBRARY): $(call files_of,lambukir)
+	@tests/prove lambukir
 
 # the leaf functions, for the comparisons and the benchmark alone
-probe:
-	rt staticlib probe
+$(PROBE): $(call files_of,probe)
+	@tests/prove probe
 
-look_through:
-	rt check look_through
+$(HEADER): include/lambukir.h
+	@mkdir -p $(@D)
+	@cp $< $@
 
-target/sample/desk: sample/desk.c packages lib
-	mkdir -p $(@D)
-	$(CC) $(CFLAGS) -Itarget/include -o $@ $< target/staticlib/liblambukir.a
+# what the comparisons and the benchmark need of others
+target/packages: tests/packages
+	@tests/packages
+	@mkdir -p $(@D)
+	@touch $@
+
+target/sample/desk: sample/desk.c $(LIBRARY) $(HEADER) | target/packages
+	@mkdir -p $(@D)
+	@$(CC) $(CFLAGS) -Itarget/include -o $@ $< $(LIBRARY)
 
 comparisons: $(COMPARISONS:%=target/tests/%)
 
-target/tests/%.o: tests/%.c $(wildcard tests/*.h) packages lib
+target/tests/%.o: tests/%.c $(wildcard tests/*.h) $(HEADER) | target/packages
 	mkdir -p $(@D)
 	$(CC) $(CFLAGS) -Itarget/include -c -o $@ $<
 
-target/tests/%: tests/%.c $(wildcard tests/*.h) $(MODEL) lib probe
-	$(CC) $(CFLAGS) -Itarget/include -o $@ $< $(MODEL) $(LDLIBS)
+target/tests/%: tests/%.c $(wildcard tests/*.h) $(MODEL) $(LIBRARY) $(PROBE)
+	$(CC) $(CFLAGS) -Itarget/include -o $@ $< $(MODEL) $(LIBRARY) $(PROBE) -lcrypto -lz
 
-target/bench/bench: bench/bench.c bench/book.c $(wildcard bench/*.h tests/*.h) $(MODEL) lib probe look_through
+target/bench/bench: bench/bench.c bench/book.c $(wildcard bench/*.h tests/*.h) $(MODEL) $(LIBRARY) $(PROBE)
 	mkdir -p $(@D)
-	$(CC) $(CFLAGS) -Itarget/include -Itests -o $@ $< bench/book.c $(MODEL) $(LDLIBS)
+	$(CC) $(CFLAGS) -Itarget/include -Itests -o $@ $< bench/book.c $(MODEL) $(LIBRARY) $(PROBE) -lcrypto -lz
 
 # with OpenSSL and zlib in it, so that both programs load the C library and nothing else
-target/bench/look_through: bench/look_through.c $(MODEL) lib
+target/bench/look_through: bench/look_through.c $(wildcard tests/*.h) $(MODEL) $(HEADER)
 	mkdir -p $(@D)
 	$(CC) $(CFLAGS) -Itarget/include -Itests -o $@ $< $(MODEL) -Wl,-Bstatic -lcrypto -lz -Wl,-Bdynamic
