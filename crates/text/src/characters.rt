@@ -2,6 +2,7 @@
 ghost use mathlib.Core.Path.{_≡_};
 ghost use mathlib.Core.Bool.{_||_};
 ghost use Prim.Native.Nat.{_%_};
+ghost use Rattle.text.specs.Ascii.{byte};
 ghost use Rattle.text.specs.Characters.{between, isDigit, isHex, isNameCharacter, isPrintable, testOf, hexValue, hexCharacter, digitValue, digitCharacter};
 
 // The alphabets that a text may be written in.
@@ -28,7 +29,7 @@ pub fn is_digit(c: u8) -> bool
 
 // 0-9, or a capital letter from A to the last one.
 fn is_digit_or_capital(last: u8, c: u8) -> bool
-    ensures { λ r. ⌜ r ≡ (isDigit c || between 65 last c) ⌝ }
+    ensures { λ r. ⌜ r ≡ (isDigit c || between (byte "A") last c) ⌝ }
 {
     is_digit(c) || within(b'A', last, c)
 }
@@ -71,9 +72,9 @@ pub fn hex_value(c: u8) -> u8
     ensures { λ r. ⌜ r ≡ hexValue c ⌝ }
 {
     if is_digit(c) {
-        c - 48
+        c - b'0'
     } else if within(b'A', b'F', c) {
-        c - 55
+        c - b'A' + 10
     } else {
         16
     }
@@ -84,19 +85,23 @@ pub fn hex_character(v: u8) -> u8
     ensures { λ r. ⌜ r ≡ hexCharacter (v % 16) ⌝ }
 {
     let low = v % 16;
-    if low < 10 { 48 + low } else { 55 + low }
+    if low < 10 {
+        b'0' + low
+    } else {
+        b'A' + (low - 10)
+    }
 }
 
 // 0 to 9; 10 for a byte that is no digit.
 pub fn digit_value(c: u8) -> u8
     ensures { λ r. ⌜ r ≡ digitValue c ⌝ }
 {
-    if is_digit(c) { c - 48 } else { 10 }
+    if is_digit(c) { c - b'0' } else { 10 }
 }
 
 // The digit of the remainder by ten.
 pub fn digit_character(v: u8) -> u8
     ensures { λ r. ⌜ r ≡ digitCharacter (v % 10) ⌝ }
 {
-    48 + v % 10
+    b'0' + v % 10
 }
