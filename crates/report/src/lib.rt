@@ -4,6 +4,7 @@ ghost use mathlib.Core.Bool.{_&&_};
 ghost use Prim.Native.Nat.{_≤_};
 ghost use lib.Dec.{eqb};
 ghost use lib.ListN.{length};
+ghost use Rattle.text.specs.Ascii.{byte};
 ghost use Rattle.text.specs.Texts.{placed};
 ghost use Rattle.permit.specs.Output.{writtenOf, lentAfter};
 ghost use Rattle.report.specs.LookThrough.{startNumber, report, lineEndsIn, roomFor, reported};
@@ -16,10 +17,10 @@ mod totals; // totals.rt: the totals by kind, or the refusal
 
 // One for CR LF, nought for two other bytes.
 fn line_end(first: u8, second: u8) -> u16
-    ensures { λ r. ⌜ r ≡ oneIf (eqb first 13 && eqb second 10) ⌝ }
+    ensures { λ r. ⌜ r ≡ oneIf (eqb first (byte "\r") && eqb second (byte "\n")) ⌝ }
 {
-    if first == 13 {
-        if second == 10 {
+    if first == b'\r' {
+        if second == b'\n' {
             return 1;
         }
     }

@@ -1,8 +1,9 @@
 -- `report::rows::put_row` meets its contract: count, number and name, one after the other.
 -- Assumes nothing.
-use mathlib.Core.List.{List, _∷_, _++_}
+use mathlib.Core.List.{List, _++_}
 use Prim.Native.Nat.{ℕ}
 use borrow.Author.Needs.{needs}
+use Rattle.text.specs.Ascii.{ascii}
 use Rattle.text.specs.Texts.{numeral}
 use Rattle.permit.specs.Line.{lineNumber}
 use Rattle.permit.specs.declared.line.Line.{Line}
@@ -13,7 +14,7 @@ use Rattle.report.proofs.rows.put_row.Statement.{statement}
 use Rattle.report.proofs.rows.put_row.Tie as tie
 
 abbrev number : Line → List ℕ
-number a = 32 ∷ numeral (lineNumber a)
+number a = ascii " " ++ numeral (lineNumber a)
 
 put-numeral-requires : tie.Need-put-numeral-requires
 unfolding rowOf rowEnd
