@@ -24,10 +24,14 @@ use Rattle.permit_file.specs.declared.Step.the-variants.{Record, Refused
 abbrev pub cursor : ℕ → Cursor
 cursor place = record { place = place }
 
+-- two bytes are CR LF
+abbrev pub isLineEnd : ℕ → ℕ → Bool
+isLineEnd first second = eqb first (byte "\r") && eqb second (byte "\n")
+
 -- how many bytes stand before the first CR LF; all where there is none
 unfoldable pub lineLength : List ℕ → ℕ
 lineLength [] = 0
-lineLength (c ∷ s) = cond (eqb c (byte "\r") && eqb (getD s 0 0) (byte "\n")) 0 (suc (lineLength s))
+lineLength (c ∷ s) = cond (isLineEnd c (getD s 0 0)) 0 (suc (lineLength s))
 
 -- where the line that begins at a place ends: its CR LF, or the file's end
 unfoldable pub lineEnds : List ℕ → ℕ → ℕ

@@ -15,7 +15,7 @@ use Rattle.permit.specs.CellPermit.{shipWords, lineEnd}
 use Rattle.permit.specs.Line.{readWith, givenNumber, lineNumber}
 use Rattle.permit.specs.declared.line.Line.{Line}
 use Rattle.permit.specs.declared.line.Line.the-variants as line
-use Rattle.permit_file.specs.File.{stepBy, firstPlace, openOf, openNumber}
+use Rattle.permit_file.specs.File.{isLineEnd, stepBy, firstPlace, openOf, openNumber}
 use Rattle.permit_file.specs.declared.Step.{Step}
 use Rattle.permit_file.specs.declared.Step.the-variants as step
 
@@ -122,7 +122,7 @@ report input =
 -- how many CR LFs a list has
 unfoldable pub lineEndsIn : List ℕ → ℕ
 lineEndsIn [] = 0
-lineEndsIn (c ∷ s) = cond (eqb c (byte "\r") && eqb (getD s 0 0) (byte "\n")) (suc (lineEndsIn s)) (lineEndsIn s)
+lineEndsIn (c ∷ s) = cond (isLineEnd c (getD s 0 0)) (suc (lineEndsIn s)) (lineEndsIn s)
 
 -- room that is enough for the report of an input: 18 bytes for each CR LF and for a line that none ends, and 100; one that is too long is only refused
 unfoldable pub roomFor : List ℕ → ℕ

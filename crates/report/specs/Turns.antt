@@ -5,12 +5,17 @@ use Prim.Native.Nat.{ℕ, _+_, _<_}
 use lib.ListN.{length}
 use Rattle.text.specs.Ascii.{ascii}
 use Rattle.text.specs.Texts.{numeral}
+use Rattle.permit.specs.Line.{lineNumber}
 use Rattle.permit.specs.declared.line.Line.{Line}
 use Rattle.permit.specs.declared.line.Line.the-variants as line
 use Rattle.permit_file.specs.declared.Step.{Step}
 use Rattle.permit_file.specs.declared.Step.the-variants as step
 use Rattle.report.specs.LookThrough.{isNoticed, isRefused, countOf, nameShown, rowOf, rowsFrom}
 use Rattle.report.specs.declared.rows.Tally.{Tally}
+
+-- the number's part of a row
+abbrev pub rowNumber : Line → List ℕ
+rowNumber a = ascii " " ++ numeral (lineNumber a)
 
 -- the name's end of a row
 unfoldable pub rowEnd : Line → List ℕ

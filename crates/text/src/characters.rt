@@ -2,7 +2,6 @@
 ghost use mathlib.Core.Path.{_≡_};
 ghost use mathlib.Core.Bool.{_||_};
 ghost use Prim.Native.Nat.{_%_};
-ghost use Rattle.text.specs.Ascii.{byte};
 ghost use Rattle.text.specs.Characters.{between, isDigit, isHex, isNameCharacter, isPrintable, testOf, hexValue, hexCharacter, digitValue, digitCharacter};
 
 // The alphabets that a text may be written in.
@@ -27,25 +26,25 @@ pub fn is_digit(c: u8) -> bool
     within(b'0', b'9', c)
 }
 
-// 0-9, or a capital letter from A to the last one.
-fn is_digit_or_capital(last: u8, c: u8) -> bool
-    ensures { λ r. ⌜ r ≡ (isDigit c || between (byte "A") last c) ⌝ }
+// 0-9, or a capital letter from the first one to the last one.
+fn is_digit_or_capital(first: u8, last: u8, c: u8) -> bool
+    ensures { λ r. ⌜ r ≡ (isDigit c || between first last c) ⌝ }
 {
-    is_digit(c) || within(b'A', last, c)
+    is_digit(c) || within(first, last, c)
 }
 
 // 0-9 A-F.
 pub fn is_hex(c: u8) -> bool
     ensures { λ r. ⌜ r ≡ isHex c ⌝ }
 {
-    is_digit_or_capital(b'F', c)
+    is_digit_or_capital(b'A', b'F', c)
 }
 
 // A-Z 0-9.
 pub fn is_name_character(c: u8) -> bool
     ensures { λ r. ⌜ r ≡ isNameCharacter c ⌝ }
 {
-    is_digit_or_capital(b'Z', c)
+    is_digit_or_capital(b'A', b'Z', c)
 }
 
 // 20 to 7E hex.
