@@ -3,7 +3,7 @@ use mathlib.Core.Path.{refl}
 use lib.IntN.{pos}
 use Rattle.dates.specs.Calendar.{year, month, day, isLeap, monthLengths, daysIn, within, isDate, multiplesBelow, daysBeforeYear, sum, daysBeforeMonth, dayNumber}
 use Rattle.dates.specs.Notice.{daysLeft, noticeOf}
-use Rattle.text.specs.Numbers.{digits}
+use Rattle.text.specs.Numbers.{digits, value}
 use Rattle.text.specs.Characters.{isDigit, isUpperHex, hexCharacter, allOf}
 use Rattle.permit.specs.Identifiers.{isText, hwId6}
 use Rattle.permit.specs.UserPermit.{mIdPart}
@@ -22,7 +22,7 @@ a and b = (a, b)
 
 -- P1 to P12, in the table's order: antt computes all but P5 and P12
 pub known : EachHolds rows
-unfolding year month day isLeap monthLengths daysIn within isDate multiplesBelow daysBeforeYear sum daysBeforeMonth dayNumber daysLeft noticeOf digits hexCharacter isDigit isUpperHex allOf isText hwId6 mIdPart givenNumber
+unfolding year month day isLeap monthLengths daysIn within isDate multiplesBelow daysBeforeYear sum daysBeforeMonth dayNumber daysLeft noticeOf digits value hexCharacter isDigit isUpperHex allOf isText hwId6 mIdPart givenNumber
 known =
     (refl, refl)
     and (refl, refl)

@@ -1,10 +1,13 @@
 -- The table of known values as one list, and what each of its rows says of the definitions. Warning days are 30.
 use Prim.Native.Nat.{ℕ, _<_}
+use Prim.Native.String.{String}
 use mathlib.Core.Path.{_≡_}
 use mathlib.Core.Bool.{true, false}
 use mathlib.Core.List.{List, [], _∷_}
 use lib.IntN.{ℤ, pos, negℤ}
 use lib.ListN.{getD}
+use Rattle.text.specs.Numbers.{bytesNumber}
+use Rattle.text.specs.Ascii.{ascii}
 use Rattle.text.specs.Places.{numberAt}
 use Rattle.dates.specs.Calendar.{isDate}
 use Rattle.dates.specs.Notice.{daysLeft, noticeOf, noticeNumber}
@@ -29,6 +32,10 @@ pub data Row : Type 0 where
   refusedHwId : (given : ℕ) (number : ℕ) → Row
   usedAfterEntering : (used : ℕ) → Row
 
+-- an identifier as the number that it is
+abbrev pub identifier : String → ℕ
+identifier s = bytesNumber (ascii s)
+
 -- the table
 abbrev pub rows : List Row
 rows =
@@ -48,12 +55,12 @@ rows =
     ∷ aDate 20000229
     -- P8
     ∷ leftAlone 19000101 29991231 (pos 401766)
-    -- P9: A79AB, and A79ABA
-    ∷ sixBytes 0x4137394142 (65 ∷ 55 ∷ 57 ∷ 65 ∷ 66 ∷ 65 ∷ [])
-    -- P10: AB, and 4142
-    ∷ inHex 0x4142 (52 ∷ 49 ∷ 52 ∷ 50 ∷ [])
-    -- P11: 1234G
-    ∷ refusedHwId 0x3132333447 18
+    -- P9
+    ∷ sixBytes (identifier "A79AB") (ascii "A79ABA")
+    -- P10
+    ∷ inHex (identifier "AB") (ascii "4142")
+    -- P11
+    ∷ refusedHwId (identifier "1234G") 18
     -- P12: one cell entered in an opened book
     ∷ usedAfterEntering 125
     ∷ []

@@ -4,6 +4,7 @@ use mathlib.Core.List.{List, [], _∷_, _++_}
 use Prim.Native.Nat.{ℕ}
 use lib.Dec.{leb}
 use Rattle.text.specs.Numbers.{bytesOf}
+use Rattle.text.specs.Ascii.{byte, ascii}
 use Rattle.text.specs.Characters.{hexText, decimalText}
 use Rattle.text.specs.Texts.{numeral}
 use Rattle.text.specs.Padding.{padOf}
@@ -39,7 +40,7 @@ cellPermit words cell = unchecked words cell ++ hexText 16 (checkOf words (unche
 
 -- the comma between fields
 abbrev pub comma : ℕ
-comma = 44
+comma = byte ","
 
 -- service level, edition without leading zeros, Data Server ID and an empty comment, each after its comma
 unfoldable pub fields : Cell → List ℕ
@@ -52,7 +53,7 @@ lineOf words cell = cellPermit words cell ++ fields cell
 
 -- CR LF
 abbrev pub lineEnd : List ℕ
-lineEnd = 13 ∷ 10 ∷ []
+lineEnd = ascii "\r\n"
 
 -- each value is in its range and alphabet, and the expiry is a date
 unfoldable pub isCell : Cell → Bool

@@ -4,7 +4,8 @@ use mathlib.Core.List.{List, [], _∷_}
 use Prim.Native.Nat.{ℕ, zero, suc, _+_, _-_}
 use lib.Dec.{leb, eqb}
 use lib.ListN.{length, getD, drop}
-use Rattle.text.specs.Characters.{isDigit, isHex, isNameCharacter, isPrintable, hexNumber, decimalNumber}
+use Rattle.text.specs.Ascii.{byte}
+use Rattle.text.specs.Characters.{between, isDigit, isHex, isNameCharacter, isPrintable, hexNumber, decimalNumber}
 use Rattle.text.specs.Places.{numberAt}
 use Rattle.text.specs.Texts.{part, allAt}
 use Rattle.text.specs.Padding.{unpadOf}
@@ -57,8 +58,8 @@ commentPlace line = 71 + editionLength line
 -- after the permit: a service level of 0 or 1, an edition without leading zero or none, a Data Server ID, and a comment, each after its comma
 unfoldable pub isTail : List ℕ → Bool
 isTail line =
-    commaAt line 64 && (leb 48 (getD line 65 0) && leb (getD line 65 0) 49)
-    && commaAt line 66 && not (eqb (getD line 67 0) 48)
+    commaAt line 64 && between (byte "0") (byte "1") (getD line 65 0)
+    && commaAt line 66 && not (eqb (getD line 67 0) (byte "0"))
     && commaAt line (67 + editionLength line) && allAt isNameCharacter 2 line (68 + editionLength line)
     && commaAt line (70 + editionLength line)
     && allAt isPrintable (length line - commentPlace line) line (commentPlace line)
@@ -75,7 +76,7 @@ partsOf line = record {
   block2 = hexNumber (part 16 line 32);
   check = hexNumber (part 16 line 48);
   expiry = expiryOf line;
-  level = getD line 65 0 - 48;
+  level = getD line 65 0 - byte "0";
   edition = decimalNumber (part (editionLength line) line 67);
   server = numberAt 2 line (68 + editionLength line);
 }

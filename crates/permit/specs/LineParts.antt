@@ -2,9 +2,10 @@
 use mathlib.Core.Bool.{Bool, cond, not, _&&_}
 use mathlib.Core.List.{List}
 use Prim.Native.Nat.{ℕ, _+_, _-_}
-use lib.Dec.{leb, eqb}
+use lib.Dec.{eqb}
 use lib.ListN.{length, getD}
-use Rattle.text.specs.Characters.{isNameCharacter, isPrintable, hexNumber, decimalNumber}
+use Rattle.text.specs.Ascii.{byte}
+use Rattle.text.specs.Characters.{between, isNameCharacter, isPrintable, hexNumber, decimalNumber}
 use Rattle.text.specs.Places.{numberAt}
 use Rattle.text.specs.Texts.{part, allAt}
 use Rattle.permit.specs.Line.{expiryOf, isPermit, commaAt, editionLength, isTail}
@@ -32,8 +33,8 @@ permitOf line = cond (isPermit line) (permit.Parts (permitParts line)) permit.Wr
 -- a service level of 0 or 1 between commas, and no zero after them
 unfoldable pub isLevelPart : List ℕ → Bool
 isLevelPart line =
-    commaAt line 64 && (leb 48 (getD line 65 0) && leb (getD line 65 0) 49)
-    && commaAt line 66 && not (eqb (getD line 67 0) 48)
+    commaAt line 64 && between (byte "0") (byte "1") (getD line 65 0)
+    && commaAt line 66 && not (eqb (getD line 67 0) (byte "0"))
 
 -- after an edition of n digits: a Data Server ID between commas, and a comment
 unfoldable pub isServerPart : List ℕ → ℕ → Bool
@@ -44,7 +45,7 @@ isServerPart line n =
 -- the fields' parts; a blank edition reads as 0
 unfoldable pub fieldParts : List ℕ → FieldParts
 fieldParts line = record {
-  level = getD line 65 0 - 48;
+  level = getD line 65 0 - byte "0";
   edition = decimalNumber (part (editionLength line) line 67);
   server = numberAt 2 line (68 + editionLength line);
 }

@@ -105,8 +105,7 @@ fn put_line(words: &[u32; 1042], cell: Cell, out: &mut [u8]) -> usize
     let n = text::writing::width(cell.edition as u64);
     put_permit(words, cell, out);
     put_fields(cell, n, out);
-    let end = [13u8, 10];
-    text::writing::put_text(out, 71 + n, &end);
+    text::writing::put_text(out, 71 + n, b"\r\n");
     73 + n
 }
 

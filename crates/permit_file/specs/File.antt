@@ -4,6 +4,7 @@ use mathlib.Core.List.{List, [], _∷_}
 use Prim.Native.Nat.{ℕ, suc, _+_}
 use lib.Dec.{leb, ltb, eqb}
 use lib.ListN.{length, getD, drop}
+use Rattle.text.specs.Ascii.{byte, ascii}
 use Rattle.text.specs.Characters.{isDigit, decimalNumber}
 use Rattle.text.specs.Texts.{part, allAt, sameText, standsAt}
 use Rattle.permit.specs.Order.{demand}
@@ -23,10 +24,14 @@ use Rattle.permit_file.specs.declared.Step.the-variants.{Record, Refused
 abbrev pub cursor : ℕ → Cursor
 cursor place = record { place = place }
 
+-- two bytes are CR LF
+abbrev pub isLineEnd : ℕ → ℕ → Bool
+isLineEnd first second = eqb first (byte "\r") && eqb second (byte "\n")
+
 -- how many bytes stand before the first CR LF; all where there is none
 unfoldable pub lineLength : List ℕ → ℕ
 lineLength [] = 0
-lineLength (c ∷ s) = cond (eqb c 13 && eqb (getD s 0 0) 10) 0 (suc (lineLength s))
+lineLength (c ∷ s) = cond (isLineEnd c (getD s 0 0)) 0 (suc (lineLength s))
 
 -- where the line that begins at a place ends: its CR LF, or the file's end
 unfoldable pub lineEnds : List ℕ → ℕ → ℕ
@@ -36,9 +41,9 @@ lineEnds file place = place + lineLength (drop place file)
 unfoldable pub lineAt : List ℕ → ℕ → List ℕ
 lineAt file place = part (lineLength (drop place file)) file place
 
--- :ECS
+-- the line that the ENC lines end at
 abbrev pub ecs : List ℕ
-ecs = 58 ∷ 69 ∷ 67 ∷ 83 ∷ []
+ecs = ascii ":ECS"
 
 -- nothing is read at a place: the file ends there, or :ECS stands there, before CR LF or the file's end
 unfoldable pub endsAt : List ℕ → ℕ → Bool
@@ -67,14 +72,13 @@ stepOf hw today days file place =
     demand (eqb (givenNumber hw today days) 0) (Refused (givenNumber hw today days) (cursor place))
     (stepWith (shipWords hw) today days file place)
 
--- `:DATE ` with its blank
+-- what stands before the date
 abbrev pub headerStart : List ℕ
-headerStart = 58 ∷ 68 ∷ 65 ∷ 84 ∷ 69 ∷ 32 ∷ []
+headerStart = ascii ":DATE "
 
--- what follows the time: CR LF, `:VERSION 2`, CR LF, `:ENC`, CR LF
+-- what follows the time
 abbrev pub headerRest : List ℕ
-headerRest =
-    13 ∷ 10 ∷ 58 ∷ 86 ∷ 69 ∷ 82 ∷ 83 ∷ 73 ∷ 79 ∷ 78 ∷ 32 ∷ 50 ∷ 13 ∷ 10 ∷ 58 ∷ 69 ∷ 78 ∷ 67 ∷ 13 ∷ 10 ∷ []
+headerRest = ascii "\r\n:VERSION 2\r\n:ENC\r\n"
 
 -- the two digits at a place are a number below a limit
 unfoldable pub isBelow : ℕ → List ℕ → ℕ → Bool
@@ -84,7 +88,7 @@ isBelow limit file at = allAt isDigit 2 file at && ltb (decimalNumber (part 2 fi
 unfoldable pub isHeader : List ℕ → Bool
 isHeader file =
     standsAt headerStart file 0 && isDateAt file 6
-    && eqb (getD file 14 0) 32 && isBelow 24 file 15 && eqb (getD file 17 0) 58 && isBelow 60 file 18
+    && eqb (getD file 14 0) (byte " ") && isBelow 24 file 15 && eqb (getD file 17 0) (byte ":") && isBelow 60 file 18
     && standsAt headerRest file 20
 
 -- the place of the first line after `:ENC`: the header has 40 bytes

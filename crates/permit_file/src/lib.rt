@@ -52,11 +52,11 @@ fn line_ends(file: &[u8], place: usize) -> usize
 {
     let mut i = place;
     while 1 < file.len() - i {
-        if 13 < file[i + 1] {
+        if b'\r' < file[i + 1] {
             i += 2;
         } else {
-            if file[i] == 13 {
-                if file[i + 1] == 10 {
+            if file[i] == b'\r' {
+                if file[i + 1] == b'\n' {
                     return i;
                 }
             }

@@ -3,8 +3,9 @@ use mathlib.Core.Bool.{Bool, true, false, cond, _&&_}
 use mathlib.Core.List.{List, [], _∷_, _++_}
 use Prim.Native.Nat.{ℕ, zero, suc, _+_, _*_}
 use lib.Dec.{leb, eqb}
-use lib.ListN.{length, getD, drop, replicate}
+use lib.ListN.{length, getD, drop}
 use Rattle.text.specs.Numbers.{bytesOf}
+use Rattle.text.specs.Ascii.{byte, ascii}
 use Rattle.text.specs.Characters.{isDigit, decimalNumber}
 use Rattle.text.specs.Places.{numberAt}
 use Rattle.text.specs.Texts.{part, allAt, standsAt, numeral}
@@ -14,14 +15,14 @@ use Rattle.permit.specs.CellPermit.{shipWords, lineEnd}
 use Rattle.permit.specs.Line.{readWith, givenNumber, lineNumber}
 use Rattle.permit.specs.declared.line.Line.{Line}
 use Rattle.permit.specs.declared.line.Line.the-variants as line
-use Rattle.permit_file.specs.File.{stepBy, firstPlace, openOf, openNumber}
+use Rattle.permit_file.specs.File.{isLineEnd, stepBy, firstPlace, openOf, openNumber}
 use Rattle.permit_file.specs.declared.Step.{Step}
 use Rattle.permit_file.specs.declared.Step.the-variants as step
 
 -- the first line, read by position: five bytes, a blank, eight bytes, a blank, two digits, CR LF
 unfoldable pub isFirstLine : List ℕ → Bool
 isFirstLine input =
-    eqb (getD input 5 0) 32 && eqb (getD input 14 0) 32 && allAt isDigit 2 input 15 && standsAt lineEnd input 17
+    eqb (getD input 5 0) (byte " ") && eqb (getD input 14 0) (byte " ") && allAt isDigit 2 input 15 && standsAt lineEnd input 17
 
 -- its HW_ID
 abbrev pub hwOf : List ℕ → ℕ
@@ -73,11 +74,11 @@ answersOf input = encAnswers (readWith (shipWords (hwOf input)) (todayOf input) 
 -- the cell name; eight hyphens when refused
 abbrev pub nameShown : Line → List ℕ
 nameShown (line.Record r) = bytesOf 8 (r .name)
-nameShown (line.Refused n) = replicate 8 45
+nameShown (line.Refused n) = ascii "--------"
 
 -- a line's row: its count, its number, the cell name, LF
 unfoldable pub rowOf : ℕ → Line → List ℕ
-rowOf count a = numeral count ++ ((32 ∷ numeral (lineNumber a)) ++ ((32 ∷ nameShown a) ++ (10 ∷ [])))
+rowOf count a = numeral count ++ ((ascii " " ++ numeral (lineNumber a)) ++ ((ascii " " ++ nameShown a) ++ ascii "\n"))
 
 -- the rows of the answers, counted on from a number
 unfoldable pub rowsFrom : ℕ → List Line → List ℕ
@@ -99,38 +100,18 @@ unfoldable pub countOf : (Line → Bool) → List Line → ℕ
 countOf test [] = 0
 countOf test (a ∷ answers) = cond (test a) (suc (countOf test answers)) (countOf test answers)
 
--- `records `
-abbrev pub recordsWord : List ℕ
-recordsWord = 114 ∷ 101 ∷ 99 ∷ 111 ∷ 114 ∷ 100 ∷ 115 ∷ 32 ∷ []
-
--- ` current `
-abbrev pub currentWord : List ℕ
-currentWord = 32 ∷ 99 ∷ 117 ∷ 114 ∷ 114 ∷ 101 ∷ 110 ∷ 116 ∷ 32 ∷ []
-
--- ` soon `
-abbrev pub soonWord : List ℕ
-soonWord = 32 ∷ 115 ∷ 111 ∷ 111 ∷ 110 ∷ 32 ∷ []
-
--- ` expired `
-abbrev pub expiredWord : List ℕ
-expiredWord = 32 ∷ 101 ∷ 120 ∷ 112 ∷ 105 ∷ 114 ∷ 101 ∷ 100 ∷ 32 ∷ []
-
--- ` refused `
-abbrev pub refusedWord : List ℕ
-refusedWord = 32 ∷ 114 ∷ 101 ∷ 102 ∷ 117 ∷ 115 ∷ 101 ∷ 100 ∷ 32 ∷ []
-
 -- the totals by kind: each is the number of ENC lines of that kind
 unfoldable pub totalsOf : List Line → List ℕ
 totalsOf answers =
-    (recordsWord ++ numeral (length answers))
-    ++ ((currentWord ++ numeral (countOf (isNoticed 0) answers))
-    ++ ((soonWord ++ numeral (countOf (isNoticed 20) answers))
-    ++ ((expiredWord ++ numeral (countOf (isNoticed 15) answers))
-    ++ ((refusedWord ++ numeral (countOf isRefused answers)) ++ (10 ∷ [])))))
+    (ascii "records " ++ numeral (length answers))
+    ++ ((ascii " current " ++ numeral (countOf (isNoticed 0) answers))
+    ++ ((ascii " soon " ++ numeral (countOf (isNoticed 20) answers))
+    ++ ((ascii " expired " ++ numeral (countOf (isNoticed 15) answers))
+    ++ ((ascii " refused " ++ numeral (countOf isRefused answers)) ++ ascii "\n"))))
 
--- `refused ` with the number, LF
+-- what is printed where nothing is listed
 unfoldable pub refusedText : ℕ → List ℕ
-refusedText number = drop 1 refusedWord ++ (numeral number ++ (10 ∷ []))
+refusedText number = ascii "refused " ++ (numeral number ++ ascii "\n")
 
 -- all that is printed
 unfoldable pub report : List ℕ → List ℕ
@@ -141,7 +122,7 @@ report input =
 -- how many CR LFs a list has
 unfoldable pub lineEndsIn : List ℕ → ℕ
 lineEndsIn [] = 0
-lineEndsIn (c ∷ s) = cond (eqb c 13 && eqb (getD s 0 0) 10) (suc (lineEndsIn s)) (lineEndsIn s)
+lineEndsIn (c ∷ s) = cond (isLineEnd c (getD s 0 0)) (suc (lineEndsIn s)) (lineEndsIn s)
 
 -- room that is enough for the report of an input: 18 bytes for each CR LF and for a line that none ends, and 100; one that is too long is only refused
 unfoldable pub roomFor : List ℕ → ℕ

@@ -1,19 +1,25 @@
 -- The look-through line by line: its tally, and what one step puts and counts. For contracts inside the crate alone.
 use mathlib.Core.Bool.{Bool, cond}
-use mathlib.Core.List.{List, [], _∷_, _++_}
+use mathlib.Core.List.{List, [], _++_}
 use Prim.Native.Nat.{ℕ, _+_, _<_}
 use lib.ListN.{length}
+use Rattle.text.specs.Ascii.{ascii}
 use Rattle.text.specs.Texts.{numeral}
+use Rattle.permit.specs.Line.{lineNumber}
 use Rattle.permit.specs.declared.line.Line.{Line}
 use Rattle.permit.specs.declared.line.Line.the-variants as line
 use Rattle.permit_file.specs.declared.Step.{Step}
 use Rattle.permit_file.specs.declared.Step.the-variants as step
-use Rattle.report.specs.LookThrough.{isNoticed, isRefused, countOf, nameShown, rowOf, rowsFrom, recordsWord, currentWord, soonWord, expiredWord, refusedWord}
+use Rattle.report.specs.LookThrough.{isNoticed, isRefused, countOf, nameShown, rowOf, rowsFrom}
 use Rattle.report.specs.declared.rows.Tally.{Tally}
+
+-- the number's part of a row
+abbrev pub rowNumber : Line → List ℕ
+rowNumber a = ascii " " ++ numeral (lineNumber a)
 
 -- the name's end of a row
 unfoldable pub rowEnd : Line → List ℕ
-rowEnd a = (32 ∷ nameShown a) ++ (10 ∷ [])
+rowEnd a = (ascii " " ++ nameShown a) ++ ascii "\n"
 
 -- the tally at a place, where these answers stand before it
 unfoldable pub tallyOf : ℕ → List Line → Tally
@@ -69,16 +75,16 @@ rowPut (step.End c) t = []
 
 -- a word, a number and LF
 unfoldable pub lastField : List ℕ → ℕ → List ℕ
-lastField word x = (word ++ numeral x) ++ (10 ∷ [])
+lastField word x = (word ++ numeral x) ++ ascii "\n"
 
 -- the totals of a tally from its soon lines on
 unfoldable pub totalsEnd : Tally → List ℕ
 totalsEnd t =
-    (soonWord ++ numeral (t .soon)) ++ ((expiredWord ++ numeral (t .expired)) ++ lastField refusedWord (t .refused))
+    (ascii " soon " ++ numeral (t .soon)) ++ ((ascii " expired " ++ numeral (t .expired)) ++ lastField (ascii " refused ") (t .refused))
 
 -- all its totals
 unfoldable pub totalsText : Tally → List ℕ
-totalsText t = (recordsWord ++ numeral (t .count)) ++ ((currentWord ++ numeral (t .current)) ++ totalsEnd t)
+totalsText t = (ascii "records " ++ numeral (t .count)) ++ ((ascii " current " ++ numeral (t .current)) ++ totalsEnd t)
 
 -- no count of a tally reaches a limit
 pub record Few (limit : ℕ) (t : Tally) : Type 0 where

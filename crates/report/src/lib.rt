@@ -1,11 +1,10 @@
 // The look-through's report: the whole output for a whole input.
 ghost use mathlib.Core.Path.{_≡_};
-ghost use mathlib.Core.Bool.{_&&_};
 ghost use Prim.Native.Nat.{_≤_};
-ghost use lib.Dec.{eqb};
 ghost use lib.ListN.{length};
 ghost use Rattle.text.specs.Texts.{placed};
 ghost use Rattle.permit.specs.Output.{writtenOf, lentAfter};
+ghost use Rattle.permit_file.specs.File.{isLineEnd};
 ghost use Rattle.report.specs.LookThrough.{startNumber, report, lineEndsIn, roomFor, reported};
 ghost use Rattle.report.specs.Turns.{oneIf};
 use permit::Written;
@@ -16,10 +15,10 @@ mod totals; // totals.rt: the totals by kind, or the refusal
 
 // One for CR LF, nought for two other bytes.
 fn line_end(first: u8, second: u8) -> u16
-    ensures { λ r. ⌜ r ≡ oneIf (eqb first 13 && eqb second 10) ⌝ }
+    ensures { λ r. ⌜ r ≡ oneIf (isLineEnd first second) ⌝ }
 {
-    if first == 13 {
-        if second == 10 {
+    if first == b'\r' {
+        if second == b'\n' {
             return 1;
         }
     }

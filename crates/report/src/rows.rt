@@ -1,13 +1,13 @@
 // A row for each line of the ENC part, put one after the other, and their counts.
 ghost use mathlib.Core.Path.{_≡_};
-ghost use mathlib.Core.List.{_∷_, _++_};
+ghost use mathlib.Core.List.{_++_};
 ghost use Prim.Native.Nat.{_+_, _*_, _≤_, _<_};
 ghost use lib.ListN.{length};
 ghost use Rattle.text.specs.Texts.{numeral, placed};
-ghost use Rattle.permit.specs.Line.{lineNumber, readWith};
+ghost use Rattle.permit.specs.Line.{readWith};
 ghost use Rattle.permit_file.specs.File.{stepWith};
 ghost use Rattle.report.specs.LookThrough.{encAnswers, nameShown, rowOf, rowsFrom, isNoticed, isRefused, lineEndsIn};
-ghost use Rattle.report.specs.Turns.{Few, rowEnd, oneIf, counted, movedTo, turned, rowPut, tallyOf};
+ghost use Rattle.report.specs.Turns.{Few, rowNumber, rowEnd, oneIf, counted, movedTo, turned, rowPut, tallyOf};
 use permit::line::Line;
 use permit_file::Cursor;
 use permit_file::Step;
@@ -47,7 +47,7 @@ fn name_of(a: Line) -> [u8; 8]
 {
     match a {
         Line::Record(r) => text::numbers::bytes64(r.name),
-        Line::Refused(_) => [45; 8],
+        Line::Refused(_) => [b'-'; 8],
     }
 }
 
@@ -65,8 +65,8 @@ fn put_row_end(out: &mut [u8], at: usize, a: Line) -> usize
 
 // Puts a blank and a line's number; answers the place after them.
 fn put_number(out: &mut [u8], at: usize, a: Line) -> usize
-    requires { ⌜ at + length (32 ∷ numeral (lineNumber a)) ≤ length (now out) ⌝ }
-    ensures { λ r. ⌜ (r ≡ at + length (32 ∷ numeral (lineNumber a))) × (now (out .exit) ≡ placed at (32 ∷ numeral (lineNumber a)) (now (out .entry))) ⌝ }
+    requires { ⌜ at + length (rowNumber a) ≤ length (now out) ⌝ }
+    ensures { λ r. ⌜ (r ≡ at + length (rowNumber a)) × (now (out .exit) ≡ placed at (rowNumber a) (now (out .entry))) ⌝ }
 {
     put_field(out, at, b" ", permit::line::line_number(a) as u64)
 }

@@ -4,6 +4,7 @@ pub mod Digits
 pub mod Every
 pub mod Alphabets
 pub mod Notations
+pub mod Quoted
 pub mod NameTexts
 pub mod Pads
 pub mod Inverses

@@ -1,7 +1,7 @@
 -- Hex, written in upper case, and decimal are alphabets. Assumes nothing.
 use mathlib.Core.Path.{_≡_}
 use mathlib.Core.Bool.{true}
-use Prim.Native.Nat.{ℕ, _-_, _≤_}
+use Prim.Native.Nat.{ℕ, _+_, _-_, _≤_}
 use native.Mathlib.Omega.{arith}
 use borrow.Author.Tests.{lt-ltb, le-ltb, leb-true}
 use lib.Dec.{ltb, leb, eqb, eqb→eq}
@@ -30,7 +30,7 @@ hex-exactly c =
     either (isDigit c)
     (λ d. rw (d, lt-ltb (c - 48) 16 (omega (arith, digit-high c d))))
     (λ d. either (between 65 70 c)
-    (λ h. rw (d, h, lt-ltb (c - 55) 16 (omega (arith, between-high 65 70 c h))))
+    (λ h. rw (d, h, lt-ltb (c - 65 + 10) 16 (omega (arith, between-high 65 70 c h))))
     (λ h. rw (d, h)))
 
 hex-back : (c : ℕ) → isUpperHex c ≡ true → hexCharacter (hexValue c) ≡ c
@@ -39,7 +39,7 @@ hex-back c e =
     either (isDigit c)
     (λ d. rw (d, lt-ltb (c - 48) 10 (omega (arith, digit-high c d))) (omega (arith, digit-low c d)))
     (λ d. either (between 65 70 c)
-    (λ h. rw (d, h, le-ltb (c - 55) 10 (omega (arith, between-low 65 70 c h))) (omega (arith, between-low 65 70 c h)))
+    (λ h. rw (d, h, le-ltb (c - 65 + 10) 10 (omega (arith, between-low 65 70 c h))) (omega (arith, between-low 65 70 c h)))
     (λ h. cc (rw (d, h) at e)))
 
 pub hex : Alphabet 16 hexCharacter hexValue isHex isUpperHex

@@ -2,6 +2,7 @@
 use mathlib.Core.Bool.{Bool, true, cond, _&&_, _||_}
 use mathlib.Core.List.{List, [], _∷_, map}
 use Prim.Native.Nat.{ℕ, _+_, _-_}
+use Rattle.text.specs.Ascii.{byte}
 use lib.Dec.{leb, ltb}
 use Rattle.text.specs.Numbers.{digits, value}
 use Rattle.text.specs.declared.characters.Alphabet.{Alphabet}
@@ -13,11 +14,11 @@ between low high c = leb low c && leb c high
 
 -- 0-9
 unfoldable pub isDigit : ℕ → Bool
-isDigit c = between 48 57 c
+isDigit c = between (byte "0") (byte "9") c
 
 -- 0-9 A-F, as hex is written
 unfoldable pub isUpperHex : ℕ → Bool
-isUpperHex c = isDigit c || between 65 70 c
+isUpperHex c = isDigit c || between (byte "A") (byte "F") c
 
 -- the characters that are read as hex: those that are written
 abbrev pub isHex : ℕ → Bool
@@ -25,11 +26,11 @@ isHex c = isUpperHex c
 
 -- A-Z 0-9
 unfoldable pub isNameCharacter : ℕ → Bool
-isNameCharacter c = isDigit c || between 65 90 c
+isNameCharacter c = isDigit c || between (byte "A") (byte "Z") c
 
 -- 20 to 7E hex: what a comment is made of
 unfoldable pub isPrintable : ℕ → Bool
-isPrintable c = between 32 126 c
+isPrintable c = between (byte " ") (byte "~") c
 
 -- the test of each alphabet
 abbrev pub testOf : Alphabet → ℕ → Bool
@@ -40,19 +41,19 @@ testOf Printable = isPrintable
 
 -- what a hex character stands for; 16 for a byte that is none
 unfoldable pub hexValue : ℕ → ℕ
-hexValue c = cond (isDigit c) (c - 48) (cond (between 65 70 c) (c - 55) 16)
+hexValue c = cond (isDigit c) (c - byte "0") (cond (between (byte "A") (byte "F") c) (c - byte "A" + 10) 16)
 
 -- the hex character, upper case, of a value below 16
 unfoldable pub hexCharacter : ℕ → ℕ
-hexCharacter v = cond (ltb v 10) (48 + v) (55 + v)
+hexCharacter v = cond (ltb v 10) (byte "0" + v) (byte "A" + (v - 10))
 
 -- what a digit stands for; 10 for a byte that is none
 unfoldable pub digitValue : ℕ → ℕ
-digitValue c = cond (isDigit c) (c - 48) 10
+digitValue c = cond (isDigit c) (c - byte "0") 10
 
 -- the digit of a value below 10
 unfoldable pub digitCharacter : ℕ → ℕ
-digitCharacter v = 48 + v
+digitCharacter v = byte "0" + v
 
 -- each byte passes the test
 unfoldable pub allOf : (ℕ → Bool) → List ℕ → Bool

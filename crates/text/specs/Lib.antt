@@ -1,4 +1,5 @@
 pub mod Numbers
+pub mod Ascii
 pub mod Characters
 pub mod Places
 pub mod Texts

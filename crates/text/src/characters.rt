@@ -26,25 +26,25 @@ pub fn is_digit(c: u8) -> bool
     within(b'0', b'9', c)
 }
 
-// 0-9, or a capital letter from A to the last one.
-fn is_digit_or_capital(last: u8, c: u8) -> bool
-    ensures { λ r. ⌜ r ≡ (isDigit c || between 65 last c) ⌝ }
+// 0-9, or a capital letter from the first one to the last one.
+fn is_digit_or_capital(first: u8, last: u8, c: u8) -> bool
+    ensures { λ r. ⌜ r ≡ (isDigit c || between first last c) ⌝ }
 {
-    is_digit(c) || within(b'A', last, c)
+    is_digit(c) || within(first, last, c)
 }
 
 // 0-9 A-F.
 pub fn is_hex(c: u8) -> bool
     ensures { λ r. ⌜ r ≡ isHex c ⌝ }
 {
-    is_digit_or_capital(b'F', c)
+    is_digit_or_capital(b'A', b'F', c)
 }
 
 // A-Z 0-9.
 pub fn is_name_character(c: u8) -> bool
     ensures { λ r. ⌜ r ≡ isNameCharacter c ⌝ }
 {
-    is_digit_or_capital(b'Z', c)
+    is_digit_or_capital(b'A', b'Z', c)
 }
 
 // 20 to 7E hex.
@@ -71,9 +71,9 @@ pub fn hex_value(c: u8) -> u8
     ensures { λ r. ⌜ r ≡ hexValue c ⌝ }
 {
     if is_digit(c) {
-        c - 48
+        c - b'0'
     } else if within(b'A', b'F', c) {
-        c - 55
+        c - b'A' + 10
     } else {
         16
     }
@@ -84,19 +84,23 @@ pub fn hex_character(v: u8) -> u8
     ensures { λ r. ⌜ r ≡ hexCharacter (v % 16) ⌝ }
 {
     let low = v % 16;
-    if low < 10 { 48 + low } else { 55 + low }
+    if low < 10 {
+        b'0' + low
+    } else {
+        b'A' + (low - 10)
+    }
 }
 
 // 0 to 9; 10 for a byte that is no digit.
 pub fn digit_value(c: u8) -> u8
     ensures { λ r. ⌜ r ≡ digitValue c ⌝ }
 {
-    if is_digit(c) { c - 48 } else { 10 }
+    if is_digit(c) { c - b'0' } else { 10 }
 }
 
 // The digit of the remainder by ten.
 pub fn digit_character(v: u8) -> u8
     ensures { λ r. ⌜ r ≡ digitCharacter (v % 10) ⌝ }
 {
-    48 + v % 10
+    b'0' + v % 10
 }

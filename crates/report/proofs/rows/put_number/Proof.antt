@@ -1,11 +1,12 @@
 -- `report::rows::put_number` meets its contract.
 -- Assumes nothing.
 use mathlib.Core.Path.{ap, _∙_}
-use mathlib.Core.List.{_∷_}
+use mathlib.Core.List.{_++_}
 use Prim.Native.Nat.{ℕ}
 use native.Mathlib.Omega.{arith}
 use borrow.Author.Needs.{needs}
 use lib.ListN.{length}
+use Rattle.text.specs.Ascii.{ascii}
 use Rattle.text.specs.Texts.{numeral, placed}
 use Rattle.report.proofs.rows.put_number.Statement.{statement}
 use Rattle.report.proofs.rows.put_number.Tie as tie
@@ -31,7 +32,7 @@ returns c =
     let args = field .before .before .before .before .before .args in
     let number = field .before .line-number .ensures in (
       omega (arith, field .put-field .ensures .0, ap (λ (n : ℕ). length (numeral n)) number),
-      field .put-field .ensures .1 ∙ ap (λ (n : ℕ). placed (args .at) (32 ∷ numeral n) (args .out .now)) number,
+      field .put-field .ensures .1 ∙ ap (λ (n : ℕ). placed (args .at) (ascii " " ++ numeral n) (args .out .now)) number,
     )
 
 pub put-number-spec : {M : Type 1} → statement M

@@ -1,26 +1,20 @@
 -- `report::rows::put_row` meets its contract: count, number and name, one after the other.
 -- Assumes nothing.
-use mathlib.Core.List.{List, _∷_, _++_}
-use Prim.Native.Nat.{ℕ}
+use mathlib.Core.List.{_++_}
 use borrow.Author.Needs.{needs}
 use Rattle.text.specs.Texts.{numeral}
-use Rattle.permit.specs.Line.{lineNumber}
-use Rattle.permit.specs.declared.line.Line.{Line}
 use Rattle.report.specs.LookThrough.{rowOf}
-use Rattle.report.specs.Turns.{rowEnd}
+use Rattle.report.specs.Turns.{rowNumber, rowEnd}
 use Rattle.report.proofs.Putting.{first-fits, second-fits, third-fits, three-put}
 use Rattle.report.proofs.rows.put_row.Statement.{statement}
 use Rattle.report.proofs.rows.put_row.Tie as tie
-
-abbrev number : Line → List ℕ
-number a = 32 ∷ numeral (lineNumber a)
 
 put-numeral-requires : tie.Need-put-numeral-requires
 unfolding rowOf rowEnd
 put-numeral-requires c κs =
     let start = c .before .before in
     let a = start .args .a in
-    first-fits (start .args .at) (numeral (start .args .count)) (number a ++ rowEnd a) (start .args .out .now) (start .pre)
+    first-fits (start .args .at) (numeral (start .args .count)) (rowNumber a ++ rowEnd a) (start .args .out .now) (start .pre)
 
 put-number-requires : tie.Need-put-number-requires
 unfolding rowOf rowEnd
@@ -28,7 +22,7 @@ put-number-requires c κs =
     let one = c .before .before .before in
     let start = one .before .before .before in
     let a = start .args .a in
-    second-fits (start .args .at) (numeral (start .args .count)) (number a) (rowEnd a) (start .args .out .now) (start .pre)
+    second-fits (start .args .at) (numeral (start .args .count)) (rowNumber a) (rowEnd a) (start .args .out .now) (start .pre)
     (one .put-numeral .result) (one .put-numeral .last .0) (one .put-numeral .ensures)
 
 put-row-end-requires : tie.Need-put-row-end-requires
@@ -38,7 +32,7 @@ put-row-end-requires c κs =
     let one = two .before .before .before .before in
     let start = one .before .before .before in
     let a = start .args .a in
-    third-fits (start .args .at) (numeral (start .args .count)) (number a) (rowEnd a) (start .args .out .now) (start .pre)
+    third-fits (start .args .at) (numeral (start .args .count)) (rowNumber a) (rowEnd a) (start .args .out .now) (start .pre)
     (one .put-numeral .result) (one .put-numeral .last .0) (one .put-numeral .ensures)
     (two .put-number .result) (two .put-number .last .0) (two .put-number .ensures)
 
@@ -53,7 +47,7 @@ returns c =
     let one = two .before .before .before .before in
     let start = one .before .before .before in
     let a = start .args .a in
-    three-put (start .args .at) (numeral (start .args .count)) (number a) (rowEnd a) (start .args .out .now) (start .pre)
+    three-put (start .args .at) (numeral (start .args .count)) (rowNumber a) (rowEnd a) (start .args .out .now) (start .pre)
     (one .put-numeral .result) (one .put-numeral .last .0) (one .put-numeral .ensures)
     (two .put-number .result) (two .put-number .last .0) (two .put-number .ensures)
     (three .put-row-end .result) (three .put-row-end .last .0) (three .put-row-end .ensures)

@@ -1,10 +1,11 @@
 -- `report::rows::put_row_end` meets its contract: a blank, the name and LF.
 -- Assumes nothing.
 use mathlib.Core.Path.{refl, ap, _∙_}
-use mathlib.Core.List.{List, [], _∷_}
+use mathlib.Core.List.{List}
 use Prim.Native.Nat.{ℕ, _+_}
 use native.Mathlib.Omega.{arith}
 use borrow.Author.Needs.{needs}
+use Rattle.text.specs.Ascii.{ascii}
 use Rattle.text.specs.Texts.{placed}
 use Rattle.report.specs.LookThrough.{nameShown}
 use Rattle.report.specs.Turns.{rowEnd}
@@ -62,7 +63,7 @@ returns c =
     let start = named .before .before in
     let at = start .args .at in
     let name = nameShown (start .args .a) in
-    three-put at (32 ∷ []) name (10 ∷ []) (start .args .out .now) (start .pre)
+    three-put at (ascii " ") name (ascii "\n") (start .args .out .now) (start .pre)
     (at + 1) (one .put-text .last .0) (refl, one .put-text .ensures)
     (at + 9) (two .put-text2 .last .0) (
       rw name-length (omega arith),

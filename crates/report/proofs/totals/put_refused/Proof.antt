@@ -1,20 +1,21 @@
 -- `report::totals::put_refused` meets its contract.
 -- Assumes nothing.
 use mathlib.Core.Path.{_≡_, ap, _∙_}
-use mathlib.Core.List.{List, [], _∷_, append-assoc}
+use mathlib.Core.List.{List, append-assoc}
 use Prim.Native.Nat.{ℕ}
 use native.Mathlib.Omega.{arith}
 use borrow.Author.Needs.{needs}
-use lib.ListN.{length, drop}
+use lib.ListN.{length}
+use Rattle.text.specs.Ascii.{ascii}
 use Rattle.text.specs.Texts.{numeral, placed}
-use Rattle.report.specs.LookThrough.{refusedWord, refusedText}
+use Rattle.report.specs.LookThrough.{refusedText}
 use Rattle.report.specs.Turns.{lastField}
 use Rattle.report.proofs.totals.put_refused.Statement.{statement}
 use Rattle.report.proofs.totals.put_refused.Tie as tie
 
-same-text : (number : ℕ) → lastField (drop 1 refusedWord) number ≡ refusedText number
+same-text : (number : ℕ) → lastField (ascii "refused ") number ≡ refusedText number
 unfolding lastField refusedText
-same-text number = append-assoc (drop 1 refusedWord) (numeral number) (10 ∷ [])
+same-text number = append-assoc (ascii "refused ") (numeral number) (ascii "\n")
 
 slice-aggregate-put-last : tie.Need-slice-aggregate-put-last
 slice-aggregate-put-last c = search needs

@@ -3,8 +3,8 @@
 use mathlib.Core.List.{List, _++_}
 use Prim.Native.Nat.{ℕ}
 use borrow.Author.Needs.{needs}
+use Rattle.text.specs.Ascii.{ascii}
 use Rattle.text.specs.Texts.{numeral}
-use Rattle.report.specs.LookThrough.{soonWord, expiredWord, refusedWord}
 use Rattle.report.specs.Turns.{lastField, totalsEnd}
 use Rattle.report.specs.declared.rows.Tally.{Tally}
 use Rattle.report.proofs.Putting.{first-fits, second-fits, third-fits, three-put}
@@ -12,13 +12,13 @@ use Rattle.report.proofs.totals.put_rest.Statement.{statement}
 use Rattle.report.proofs.totals.put_rest.Tie as tie
 
 abbrev soon : Tally → List ℕ
-soon t = soonWord ++ numeral (t .soon)
+soon t = ascii " soon " ++ numeral (t .soon)
 
 abbrev expired : Tally → List ℕ
-expired t = expiredWord ++ numeral (t .expired)
+expired t = ascii " expired " ++ numeral (t .expired)
 
 abbrev refused : Tally → List ℕ
-refused t = lastField refusedWord (t .refused)
+refused t = lastField (ascii " refused ") (t .refused)
 
 slice-aggregate-put-field : tie.Need-slice-aggregate-put-field
 slice-aggregate-put-field c = search needs

@@ -3,8 +3,8 @@
 use mathlib.Core.List.{List, _++_}
 use Prim.Native.Nat.{ℕ}
 use borrow.Author.Needs.{needs}
+use Rattle.text.specs.Ascii.{ascii}
 use Rattle.text.specs.Texts.{numeral}
-use Rattle.report.specs.LookThrough.{recordsWord, currentWord}
 use Rattle.report.specs.Turns.{totalsEnd, totalsText}
 use Rattle.report.specs.declared.rows.Tally.{Tally}
 use Rattle.report.proofs.Putting.{first-fits, second-fits, third-fits, three-put}
@@ -12,10 +12,10 @@ use Rattle.report.proofs.totals.put_totals.Statement.{statement}
 use Rattle.report.proofs.totals.put_totals.Tie as tie
 
 abbrev records : Tally → List ℕ
-records t = recordsWord ++ numeral (t .count)
+records t = ascii "records " ++ numeral (t .count)
 
 abbrev current : Tally → List ℕ
-current t = currentWord ++ numeral (t .current)
+current t = ascii " current " ++ numeral (t .current)
 
 abbrev others : Tally → List ℕ
 others t = totalsEnd t

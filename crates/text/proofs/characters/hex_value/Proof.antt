@@ -20,6 +20,9 @@ within-requires c κs = search needs
 sub-result-2 : tie.Need-sub-result-2
 sub-result-2 c = omega (arith, between-low 65 70 (c .before .before .before .before .args .c) (sym (c .before .within .ensures) ∙ c .if2 .taken))
 
+add-result : tie.Need-add-result
+add-result c = search needs
+
 returns : tie.Need-returns
 unfolding hexValue
 returns c = rw (sym (c .before .is-digit .ensures) ∙ c .if1 .taken)
@@ -44,6 +47,7 @@ hex-value-spec =
     sub-result
     within-requires
     sub-result-2
+    add-result
     returns
     returns-2
     returns-3)
