@@ -1,10 +1,10 @@
 -- The calls that leave the book as it is, on its bytes: a damaged book is 101, and else the rules decide, by what is the tenant's own.
 use mathlib.Core.List.{List}
 use Prim.Native.Nat.{ℕ}
-use Rattle.permit.specs.Order.{demand}
-use Rattle.permit.specs.Output.{Output, refusal}
-use Rattle.permit.specs.declared.line.Line.{Line}
-use Rattle.permit.specs.declared.line.Line.the-variants as of-line
+use Rattle.forms.specs.Order.{demand}
+use Rattle.forms.specs.Output.{Output, refusal}
+use Rattle.cell_permit.specs.declared.Line.{Line}
+use Rattle.cell_permit.specs.declared.Line.the-variants as of-line
 use Rattle.tenants.specs.declared.Asked.{Asked}
 use Rattle.tenants.specs.declared.Asked.the-variants as asked
 use Rattle.tenants.specs.Rules.{asking, issuing, checking}

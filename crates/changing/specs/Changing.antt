@@ -1,7 +1,7 @@
 -- The calls that change the book, on its bytes: a damaged book is 101, and else the rules decide, by what is the tenant's own.
 use mathlib.Core.List.{List}
 use Prim.Native.Nat.{ℕ}
-use Rattle.permit.specs.Order.{demand}
+use Rattle.forms.specs.Order.{demand}
 use Rattle.tenants.specs.declared.Held.{Held}
 use Rattle.tenants.specs.Rules.{Change, enters, withdraws, sets, nothing, refuses, entering, withdrawing, settingDays}
 use Rattle.tenants.specs.Together.{changed}

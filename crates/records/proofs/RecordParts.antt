@@ -8,10 +8,10 @@ use native.Mathlib.Omega.{arith}
 use borrow.Author.Tests.{ltb-true, ltb-false, leb-true, leb-false, eqb-true, eqb-false, lt-ltb, le-ltb, eq-eqb, ne-eqb}
 use lib.Dec.{ltb, eqb, leb}
 use lib.ListN.{length, getD}
-use Rattle.text.specs.Numbers.{Below}
-use Rattle.text.specs.Places.{numberAt}
-use Rattle.text.proofs.Every.{either}
-use Rattle.text.proofs.Places.{number-beyond, number-one, number-join, number-at-below}
+use Rattle.bytes.specs.Numbers.{Below}
+use Rattle.bytes.specs.Places.{numberAt}
+use Rattle.bytes.proofs.Every.{either}
+use Rattle.bytes.proofs.Places.{number-beyond, number-one, number-join, number-at-below}
 use Rattle.tenants.specs.declared.Held.{Held}
 use Rattle.tenants.specs.Together.{cellIn, names, fullName}
 use Rattle.layout.specs.Layout.{recordPlace, recordAt}

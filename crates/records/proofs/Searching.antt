@@ -8,9 +8,9 @@ use native.Mathlib.Omega.{arith}
 use borrow.Author.Tests.{ltb-true, ltb-false, lt-ltb, le-ltb}
 use lib.Dec.{ltb, eqb}
 use lib.ListN.{length, getD}
-use Rattle.text.specs.Numbers.{Below}
-use Rattle.text.proofs.Every.{either}
-use Rattle.text.proofs.Places.{number-at-below}
+use Rattle.bytes.specs.Numbers.{Below}
+use Rattle.bytes.proofs.Every.{either}
+use Rattle.bytes.proofs.Places.{number-at-below}
 use Rattle.tenants.specs.Together.{BookRecord, fullName, ownOf}
 use Rattle.layout.specs.Layout.{recordAt, recordCount, bookOf, isBook}
 use Rattle.layout.proofs.Frame.{book-frame}

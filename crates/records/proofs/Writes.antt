@@ -6,8 +6,8 @@ use Prim.Native.Nat.{ℕ, suc, _+_, _*_, _/_, _%_, _^_, _<_}
 use native.Mathlib.Nat.{div-one, mul-add-mod-self-right}
 use native.Mathlib.Omega.{arith}
 use lib.Arith.{digits-div}
-use Rattle.text.specs.Numbers.{digits, bytesOf}
-use Rattle.text.proofs.Digits.{digits-of-low}
+use Rattle.bytes.specs.Numbers.{digits, bytesOf}
+use Rattle.bytes.proofs.Digits.{digits-of-low}
 use Rattle.tenants.specs.declared.Held.{Held}
 use Rattle.tenants.specs.Together.{names, inBook}
 use Rattle.layout.specs.Layout.{zeros, recordBytes}

@@ -7,7 +7,7 @@ use mathlib.Core.Option.{none, some}
 use Prim.Native.Nat.{ℕ, zero, suc, _+_, _-_, _/_, _<_}
 use lib.Dec.{ltb, eqb}
 use lib.ListN.{length, getD}
-use Rattle.text.specs.Places.{numberAt}
+use Rattle.bytes.specs.Places.{numberAt}
 use Rattle.tenants.specs.Cells.{cellOf}
 use Rattle.tenants.specs.Together.{names, fullName, cellIn}
 use Rattle.layout.specs.Layout.{recordPlace, recordAt, recordCount, isBook, ownIn}

@@ -6,7 +6,7 @@ use mathlib.Core.List.{List, _++_}
 use Prim.Native.Nat.{ℕ, suc, _+_, _-_, _<_}
 use lib.Dec.{leb, ltb}
 use lib.ListN.{length, take, drop}
-use Rattle.text.specs.Numbers.{bytesOf}
+use Rattle.bytes.specs.Numbers.{bytesOf}
 use Rattle.text.specs.Texts.{placed}
 use Rattle.tenants.specs.declared.Held.{Held}
 use Rattle.tenants.specs.Rules.{enters, withdraws}

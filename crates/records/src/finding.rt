@@ -7,9 +7,9 @@ ghost use Rattle.records.specs.Finding.{nameAt, placeIn, searched, heldI
 use layout::RECORD_SIZE;
 use layout::RECORDS_PLACE;
 use tenants::Held;
-use text::numbers::number16;
-use text::numbers::number40;
-use text::numbers::number64;
+use bytes::numbers::number16;
+use bytes::numbers::number40;
+use bytes::numbers::number64;
 use text::reading::byte_at;
 
 // Where a cell stands among the records, or where it would go.

@@ -84,7 +84,7 @@ pub fn put_record(book: &mut [u8], i: u32, tenant: u32, cell: Held)
 fn put_used(book: &mut [u8], used: usize)
     ensures { λ _. ⌜ now (book .exit) ≡ usedPut used (now (book .entry)) ⌝ }
 {
-    let bytes = text::numbers::bytes32((used % 4294967296) as u32);
+    let bytes = bytes::numbers::bytes32((used % 4294967296) as u32);
     text::writing::put_text(book, 1, &bytes);
 }
 

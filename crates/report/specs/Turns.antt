@@ -5,9 +5,9 @@ use Prim.Native.Nat.{ℕ, _+_, _<_}
 use lib.ListN.{length}
 use Rattle.text.specs.Ascii.{ascii}
 use Rattle.text.specs.Texts.{numeral}
-use Rattle.permit.specs.Line.{lineNumber}
-use Rattle.permit.specs.declared.line.Line.{Line}
-use Rattle.permit.specs.declared.line.Line.the-variants as line
+use Rattle.cell_permit.specs.Line.{lineNumber}
+use Rattle.cell_permit.specs.declared.Line.{Line}
+use Rattle.cell_permit.specs.declared.Line.the-variants as line
 use Rattle.permit_file.specs.declared.Step.{Step}
 use Rattle.permit_file.specs.declared.Step.the-variants as step
 use Rattle.report.specs.LookThrough.{isNoticed, isRefused, countOf, nameShown, rowOf, rowsFrom}

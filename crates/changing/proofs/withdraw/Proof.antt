@@ -6,7 +6,7 @@ use mathlib.Core.List.{List}
 use Prim.Native.Nat.{ℕ, _≤_}
 use borrow.Author.Needs.{needs}
 use borrow.Author.Tests.{not-true, not-false}
-use Rattle.permit.specs.Identifiers.{isCellName}
+use Rattle.forms.specs.Identifiers.{isCellName}
 use Rattle.tenants.specs.Together.{fullName}
 use Rattle.tenants.proofs.Ranges.{tenant-is, tenant-not}
 use Rattle.layout.specs.Layout.{isBook}

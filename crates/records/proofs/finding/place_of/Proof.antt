@@ -4,7 +4,7 @@ use mathlib.Core.Path.{sym, _∙_}
 use Prim.Native.Nat.{_-_}
 use native.Mathlib.Omega.{arith}
 use borrow.Author.Needs.{needs}
-use Rattle.text.specs.Numbers.{Below}
+use Rattle.bytes.specs.Numbers.{Below}
 use Rattle.tenants.specs.Together.{fullName}
 use Rattle.records.proofs.Searching.{Left, count-most, all-left, left-up, left-down, none-left}
 use Rattle.records.proofs.finding.place_of.Statement.{statement}
