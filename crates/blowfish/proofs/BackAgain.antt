@@ -5,7 +5,7 @@ use Prim.Native.Nat.{ℕ, zero, suc, _+_, _-_, _<_}
 use native.Mathlib.Omega.{arith}
 use lib.Bits.{bitXor}
 use lib.Dec.{lit<}
-use Rattle.text.proofs.Xor.{xor-twice, xor-swap}
+use Rattle.bytes.proofs.Xor.{xor-twice, xor-swap}
 use Rattle.blowfish.specs.Cipher.{F, P, farEnd, Block, block, exchange, round, rounds, whiten, cipher}
 use Rattle.blowfish.specs.BackAgain.{DecipherAfterEncipher, EncipherAfterDecipher}
 

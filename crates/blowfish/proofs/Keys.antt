@@ -8,7 +8,7 @@ use native.Mathlib.Omega.{arith}
 use borrow.Author.Tests.{le-leb, lt-leb}
 use lib.Dec.{leb}
 use lib.ListN.{length}
-use Rattle.blowfish.specs.Pi.{startWords}
+use Rattle.pi.specs.Pi.{startWords}
 use Rattle.blowfish.specs.Schedule.{isKey, keyNumber, keyed, filled, schedule, scheduled}
 
 module _ (key : List ℕ) where

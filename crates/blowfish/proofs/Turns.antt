@@ -5,7 +5,7 @@ use Prim.Native.Nat.{ℕ, _+_, _*_, _^_}
 use native.Mathlib.Numerals.{add-one}
 use native.Mathlib.Omega.{arith}
 use lib.Bits.{bitXor}
-use Rattle.text.proofs.Xor.{xor-swap}
+use Rattle.bytes.proofs.Xor.{xor-swap}
 use Rattle.blowfish.specs.Cipher.{Block, block, round, rounds, cipher, blockNumber}
 
 -- the words n and n + 1 are combined already

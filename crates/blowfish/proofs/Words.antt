@@ -9,9 +9,9 @@ use lib.Arith.{digits-div, digits-mod}
 use lib.Bits.{xor-lt}
 use lib.Dec.{lit<}
 use lib.ListN.{length, set}
-use Rattle.text.specs.Numbers.{Below}
-use Rattle.text.proofs.Digits.{digits-below, set-below}
-use Rattle.blowfish.specs.Pi.{piFraction, startWords}
+use Rattle.bytes.specs.Numbers.{Below}
+use Rattle.bytes.proofs.Digits.{digits-below, set-below}
+use Rattle.pi.specs.Pi.{piFraction, startWords}
 use Rattle.blowfish.specs.Cipher.{F, P, farEnd, Block, block, rounds, cipher, blockOf, blockNumber, encipherOf, decipherOf}
 use Rattle.blowfish.specs.Schedule.{keyWord, keyed, Filling, filled, schedule}
 use Rattle.blowfish.specs.BackAgain.{NumberBack, NumberForth, BlocksStayBlocks, KeysHaveWords}

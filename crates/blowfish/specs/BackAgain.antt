@@ -2,7 +2,7 @@
 use mathlib.Core.Path.{_≡_}
 use mathlib.Core.List.{List}
 use Prim.Native.Nat.{ℕ, _^_, _<_}
-use Rattle.text.specs.Numbers.{Below}
+use Rattle.bytes.specs.Numbers.{Below}
 use Rattle.blowfish.specs.Cipher.{F, P, farEnd, Block, cipher, encipherOf, decipherOf}
 use Rattle.blowfish.specs.Schedule.{schedule}
 

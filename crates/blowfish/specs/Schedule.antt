@@ -6,7 +6,7 @@ use lib.Bits.{bitXor}
 use lib.Dec.{leb}
 use lib.ListN.{length, getD, set}
 use Rattle.blowfish.specs.Cipher.{encipherOf}
-use Rattle.blowfish.specs.Pi.{startWords}
+use Rattle.pi.specs.Pi.{startWords}
 
 -- a key has 4 to 56 bytes
 unfoldable pub isKey : List ℕ → Bool

@@ -6,8 +6,6 @@ ghost use lib.ListN.{length};
 ghost use Rattle.blowfish.specs.Cipher.{F, encipherOf, decipherOf};
 ghost use Rattle.blowfish.specs.Schedule.{keyWord, keyed, filled, keyNumber, scheduled};
 
-mod start;
-
 // Blowfish's F.
 fn round_function(words: &[u32; 1042], x: u32) -> u32
     ensures { λ r. ⌜ r ≡ F (now (words .entry)) x ⌝ }
@@ -140,7 +138,7 @@ pub fn key_schedule(key: &[u8], words: &mut [u32; 1042]) -> u32
     if 56 < key.len() {
         return 103;
     }
-    *words = start::start();
+    *words = pi::start();
     combine(key, words);
     fill(words);
     0

@@ -6,18 +6,18 @@ use mathlib.Core.List.{List}
 use mathlib.Core.Option.{Option, none, some}
 use Prim.Native.Nat.{ℕ}
 use lib.Dec.{leb}
-use Rattle.text.proofs.Every.{either}
+use Rattle.bytes.proofs.Every.{either}
 use Rattle.dates.specs.Calendar.{isDate}
-use Rattle.permit.specs.Identifiers.{isHwId, isCellName}
-use Rattle.permit.specs.Register.{isRegister}
-use Rattle.permit.specs.UserPermit.{readPermit}
-use Rattle.permit.specs.CellPermit.{writtenLine}
-use Rattle.permit.specs.Line.{givenNumber, readLine}
-use Rattle.permit.specs.Output.{Output, refusal, Answered}
-use Rattle.permit.specs.declared.Written.{Written}
-use Rattle.permit.specs.declared.line.Line.the-variants as of-line
-use Rattle.permit.specs.declared.user_permit.UserPermit.{UserPermit}
-use Rattle.permit.specs.declared.user_permit.UserPermit.the-variants as user-permit
+use Rattle.forms.specs.Identifiers.{isHwId, isCellName}
+use Rattle.user_permit.specs.Register.{isRegister}
+use Rattle.user_permit.specs.UserPermit.{readPermit}
+use Rattle.cell_permit.specs.CellPermit.{writtenLine}
+use Rattle.cell_permit.specs.Line.{givenNumber, readLine}
+use Rattle.forms.specs.Output.{Output, refusal, Answered}
+use Rattle.forms.specs.declared.Written.{Written}
+use Rattle.cell_permit.specs.declared.Line.the-variants as of-line
+use Rattle.user_permit.specs.declared.UserPermit.{UserPermit}
+use Rattle.user_permit.specs.declared.UserPermit.the-variants as user-permit
 use Rattle.tenants.specs.declared.Held.{Held}
 use Rattle.tenants.specs.declared.Setting.{Setting}
 use Rattle.tenants.specs.declared.Asked.the-variants as asked

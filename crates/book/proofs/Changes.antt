@@ -7,7 +7,7 @@ use Prim.Native.Nat.{ℕ, suc, _+_, _<_}
 use native.Mathlib.Omega.{arith}
 use lib.ListN.{length, take, drop, getD, set, length-append, take-append-drop}
 use lib.Seq.{drop-cons, set-at, length-take-le}
-use Rattle.text.specs.Numbers.{bytesOf}
+use Rattle.bytes.specs.Numbers.{bytesOf}
 use Rattle.text.specs.Texts.{placed}
 use Rattle.tenants.specs.declared.Held.{Held}
 use Rattle.tenants.specs.declared.Setting.{Setting}

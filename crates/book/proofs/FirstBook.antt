@@ -9,10 +9,10 @@ use native.Mathlib.Omega.{arith}
 use borrow.Author.Tests.{eq-eqb, ne-eqb}
 use lib.ListN.{length, take, drop, set, length-append, length-set, length-replicate, replicate-append-replicate, drop-of-length-le}
 use lib.Seq.{take-all, take-suc-set, drop-at}
-use Rattle.text.specs.Numbers.{digits}
+use Rattle.bytes.specs.Numbers.{digits}
 use Rattle.text.specs.Texts.{placed}
 use Rattle.text.proofs.PlacedTexts.{length-placed, placed-none, placed-start, placed-next}
-use Rattle.permit.specs.Output.{writtenNumber, writtenOf, lentAfter}
+use Rattle.forms.specs.Output.{writtenNumber, writtenOf, lentAfter}
 use Rattle.tenants.specs.declared.Setting.{Setting}
 use Rattle.layout.specs.Layout.{bookSize, settingPlace, zeros, settingBytes, allBytes, bookBytes, eachFrom}
 use Rattle.layout.proofs.Each.{each-count}

@@ -6,8 +6,8 @@ use mathlib.Core.List.{List}
 use Prim.Native.Nat.{ℕ, _<_}
 use borrow.Author.Tests.{lt-ltb}
 use lib.ListN.{getD}
-use Rattle.text.specs.Places.{numberAt}
-use Rattle.permit.specs.Output.{text}
+use Rattle.bytes.specs.Places.{numberAt}
+use Rattle.forms.specs.Output.{text}
 use Rattle.tenants.specs.declared.Held.{Held}
 use Rattle.tenants.specs.Cells.{entered, cellOf}
 use Rattle.tenants.specs.Rules.{enters, isTenant, isHeld, entering}

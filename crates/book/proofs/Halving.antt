@@ -9,7 +9,7 @@ use native.Mathlib.Omega.{arith}
 use borrow.Author.Tests.{ltb-true, ltb-false, lt-ltb, le-ltb, eq-eqb, ne-eqb}
 use lib.Dec.{ltb, eqb}
 use lib.ListN.{length, getD}
-use Rattle.text.proofs.Every.{either, same-tests}
+use Rattle.bytes.proofs.Every.{either, same-tests}
 use Rattle.tenants.specs.Cells.{cellOf}
 use Rattle.tenants.specs.Rules.{isSome}
 use Rattle.tenants.specs.Together.{BookRecord, fullName, tenantOf, cellsOf}

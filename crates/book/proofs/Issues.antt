@@ -8,16 +8,16 @@ use Prim.Native.Nat.{ℕ, _≤_}
 use native.Mathlib.Omega.{arith}
 use borrow.Author.Tests.{le-leb}
 use Rattle.dates.specs.Calendar.{isDate}
-use Rattle.permit.specs.Identifiers.{isHwId, isCellName}
-use Rattle.permit.specs.Register.{isRegister}
-use Rattle.permit.specs.UserPermit.{readPermit}
-use Rattle.permit.specs.CellPermit.{shipWords, lineOf, lineEnd}
-use Rattle.permit.specs.Line.{givenNumber, readWith, readLine}
-use Rattle.permit.specs.ReadBack.{recordFor}
-use Rattle.permit.specs.Output.{text}
-use Rattle.permit.specs.declared.user_permit.UserPermit.the-variants.{Ship}
-use Rattle.permit.proofs.ShipRead.{ship-form}
-use Rattle.permit.proofs.LineBack.{line-reads-back}
+use Rattle.forms.specs.Identifiers.{isHwId, isCellName}
+use Rattle.user_permit.specs.Register.{isRegister}
+use Rattle.user_permit.specs.UserPermit.{readPermit}
+use Rattle.cell_permit.specs.CellPermit.{shipWords, lineOf, lineEnd}
+use Rattle.cell_permit.specs.Line.{givenNumber, readWith, readLine}
+use Rattle.cell_permit.specs.ReadBack.{recordFor}
+use Rattle.forms.specs.Output.{text}
+use Rattle.user_permit.specs.declared.UserPermit.the-variants.{Ship}
+use Rattle.user_permit.proofs.ShipRead.{ship-form}
+use Rattle.cell_permit.proofs.LineBack.{line-reads-back}
 use Rattle.tenants.specs.declared.Held.{Held}
 use Rattle.tenants.specs.declared.Setting.{Setting}
 use Rattle.tenants.specs.Cells.{cellOf}

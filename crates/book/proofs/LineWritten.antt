@@ -6,14 +6,14 @@ use mathlib.Core.List.{List}
 use mathlib.Core.Option.{Option, none, some}
 use Prim.Native.Nat.{ℕ, _^_, _≤_}
 use borrow.Author.Tests.{le-leb, lt-ltb}
-use Rattle.text.proofs.Every.{and-first, and-second}
+use Rattle.bytes.proofs.Every.{and-first, and-second}
 use Rattle.dates.specs.Calendar.{isDate}
-use Rattle.permit.specs.Identifiers.{isServerId}
-use Rattle.permit.specs.UserPermit.{readPermit}
-use Rattle.permit.specs.CellPermit.{isCell, writtenLine}
-use Rattle.permit.specs.declared.user_permit.UserPermit.{UserPermit}
-use Rattle.permit.specs.declared.user_permit.UserPermit.the-variants as user-permit
-use Rattle.permit.proofs.ShipRead.{ship-form}
+use Rattle.forms.specs.Identifiers.{isServerId}
+use Rattle.user_permit.specs.UserPermit.{readPermit}
+use Rattle.cell_permit.specs.CellPermit.{isCell, writtenLine}
+use Rattle.user_permit.specs.declared.UserPermit.{UserPermit}
+use Rattle.user_permit.specs.declared.UserPermit.the-variants as user-permit
+use Rattle.user_permit.proofs.ShipRead.{ship-form}
 use Rattle.tenants.specs.declared.Held.{Held}
 use Rattle.tenants.specs.Cells.{cellOf}
 use Rattle.tenants.specs.Rules.{isTenant, isDays, lineCell, lineFor}

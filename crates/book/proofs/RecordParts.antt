@@ -9,10 +9,10 @@ use borrow.Author.Tests.{ltb-true, ltb-false, leb-true, leb-false, eqb-true, eqb
 use lib.Dec.{ltb, eqb, leb}
 use lib.ListN.{length, getD, take, drop}
 use lib.Seq.{take-take}
-use Rattle.text.specs.Numbers.{Below, bytesNumber}
-use Rattle.text.specs.Places.{numberAt}
-use Rattle.text.proofs.Every.{either}
-use Rattle.text.proofs.Places.{number-within, number-beyond, part-length, number-one, number-join, number-at-below}
+use Rattle.bytes.specs.Numbers.{Below, bytesNumber}
+use Rattle.bytes.specs.Places.{numberAt}
+use Rattle.bytes.proofs.Every.{either}
+use Rattle.bytes.proofs.Places.{number-within, number-beyond, part-length, number-one, number-join, number-at-below}
 use Rattle.tenants.specs.declared.Held.{Held}
 use Rattle.tenants.specs.Together.{cellIn, names, fullName}
 use Rattle.layout.specs.Layout.{recordPlace, recordAt}

@@ -6,9 +6,9 @@ use mathlib.Core.List.{List, [], _∷_, _++_, append-assoc}
 use Prim.Native.Nat.{ℕ, suc, _+_, _-_, _<_}
 use native.Mathlib.Omega.{arith}
 use lib.ListN.{length, length-append}
-use Rattle.text.specs.Numbers.{bytesOf}
+use Rattle.bytes.specs.Numbers.{bytesOf}
 use Rattle.text.specs.Texts.{placed}
-use Rattle.text.proofs.Digits.{digits-length}
+use Rattle.bytes.proofs.Digits.{digits-length}
 use Rattle.tenants.specs.Together.{BookRecord}
 use Rattle.tenants.specs.declared.Setting.{Setting}
 use Rattle.tenants.specs.Alone.{withDays}

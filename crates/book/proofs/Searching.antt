@@ -8,7 +8,7 @@ use native.Mathlib.Omega.{arith}
 use borrow.Author.Tests.{ltb-true, ltb-false, eqb-true, eqb-false}
 use lib.Dec.{ltb, eqb}
 use lib.ListN.{length, getD, take, drop}
-use Rattle.text.specs.Places.{numberAt}
+use Rattle.bytes.specs.Places.{numberAt}
 use Rattle.tenants.specs.Together.{BookRecord, fullName, ownOf}
 use Rattle.layout.specs.Layout.{recordSize, recordPlace, recordAt, recordCount, bookOf, isBook}
 use Rattle.layout.proofs.Frame.{book-frame}

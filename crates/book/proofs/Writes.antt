@@ -7,9 +7,9 @@ use native.Mathlib.Nat.{mod-eq-of-lt, mul-add-mod-self-right}
 use native.Mathlib.Omega.{arith}
 use lib.Arith.{digits-div}
 use lib.ListN.{length, set, length-append}
-use Rattle.text.specs.Numbers.{digits, bytesOf}
+use Rattle.bytes.specs.Numbers.{digits, bytesOf}
 use Rattle.text.specs.Texts.{placed}
-use Rattle.text.proofs.Digits.{digits-of-low}
+use Rattle.bytes.proofs.Digits.{digits-of-low}
 use Rattle.text.proofs.PlacedTexts.{length-placed, placed-none, placed-first, placed-next}
 use Rattle.tenants.specs.Together.{fullName}
 

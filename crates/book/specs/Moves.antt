@@ -2,7 +2,7 @@
 use mathlib.Core.List.{List, _++_}
 use Prim.Native.Nat.{ℕ, suc, _+_, _-_}
 use lib.ListN.{take, drop}
-use Rattle.text.specs.Numbers.{bytesOf}
+use Rattle.bytes.specs.Numbers.{bytesOf}
 use Rattle.text.specs.Texts.{placed}
 use Rattle.tenants.specs.Together.{BookRecord}
 use Rattle.layout.specs.Layout.{recordSize, zeros, recordBytes, usedLength, recordPlace}

@@ -9,10 +9,10 @@
 --   check         checking                                   checkedBy
 use mathlib.Core.List.{List}
 use Prim.Native.Nat.{ℕ}
-use Rattle.permit.specs.Order.{demand}
-use Rattle.permit.specs.Output.{Output, refusal}
-use Rattle.permit.specs.declared.line.Line.{Line}
-use Rattle.permit.specs.declared.line.Line.the-variants as of-line
+use Rattle.forms.specs.Order.{demand}
+use Rattle.forms.specs.Output.{Output, refusal}
+use Rattle.cell_permit.specs.declared.Line.{Line}
+use Rattle.cell_permit.specs.declared.Line.the-variants as of-line
 use Rattle.tenants.specs.declared.Held.{Held}
 use Rattle.tenants.specs.declared.Asked.{Asked}
 use Rattle.tenants.specs.declared.Asked.the-variants as asked

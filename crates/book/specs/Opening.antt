@@ -4,10 +4,11 @@ use mathlib.Core.List.{List, []}
 use Prim.Native.Nat.{ℕ, _*_}
 use lib.Dec.{leb, eqb}
 use lib.ListN.{length, getD}
-use Rattle.text.specs.Characters.{isNameCharacter, allOf}
-use Rattle.text.specs.Places.{numberAt}
-use Rattle.permit.specs.Order.{demand}
-use Rattle.permit.specs.Output.{Output, text, refusal}
+use Rattle.text.specs.Characters.{isNameCharacter}
+use Rattle.bytes.specs.Every.{allOf}
+use Rattle.bytes.specs.Places.{numberAt}
+use Rattle.forms.specs.Order.{demand}
+use Rattle.forms.specs.Output.{Output, text, refusal}
 use Rattle.tenants.specs.declared.Setting.{Setting}
 use Rattle.tenants.specs.Together.{Book, quotaSum}
 use Rattle.layout.specs.Layout.{bookSize, bookBytes, eachFrom}

@@ -5,8 +5,8 @@ ghost use Prim.Native.Nat.{_≤_};
 ghost use lib.Dec.{leb};
 ghost use lib.ListN.{length};
 ghost use Rattle.dates.specs.Calendar.{isDate};
-ghost use Rattle.permit.specs.Identifiers.{isCellName};
-ghost use Rattle.permit.specs.Output.{writtenOf, lentAfter};
+ghost use Rattle.forms.specs.Identifiers.{isCellName};
+ghost use Rattle.forms.specs.Output.{writtenOf, lentAfter};
 ghost use Rattle.tenants.specs.Cells.{cellOf};
 ghost use Rattle.tenants.specs.Rules.{asking, issuing, checking};
 ghost use Rattle.layout.specs.Layout.{isBook};
@@ -15,12 +15,12 @@ ghost use Rattle.book.specs.OnBook.{ownIn, editionIn, issuedFrom, checke
 use super::finding::Found;
 use super::finding::cell_at;
 use super::finding::find;
-use permit::Written;
-use permit::identifiers::is_cell_name;
-use permit::line::Cell;
-use permit::line::Line;
-use permit::user_permit::UserPermit;
+use cell_permit::Cell;
+use cell_permit::Line;
+use forms::Written;
+use forms::identifiers::is_cell_name;
 use tenants::Asked;
+use user_permit::UserPermit;
 
 // The edition of a tenant's cell in an undamaged book.
 fn edition_in(book: &[u8], tenant: u32, name: u64) -> Asked
@@ -95,7 +95,7 @@ fn issue_for(
         edition: held.edition,
         server: layout::setting_of(book, tenant).server,
     };
-    permit::writing_line::write_line(hw, cell, out)
+    writing_line::write_line(hw, cell, out)
 }
 
 // A line issued from an undamaged book.
@@ -115,7 +115,7 @@ fn issue_from(
         × (now (out .exit) ≡ lentAfter (issuing tenant (now (register .entry)) name expiry level
         (now (permit .entry)) (length (now (out .entry))) (ownIn (now (book .entry)) tenant)) (now (out .entry))) ⌝ }
 {
-    if !permit::register::is_register(register) {
+    if !user_permit::register::is_register(register) {
         return Written::Refused(109);
     }
     if 15 < tenant {
@@ -127,7 +127,7 @@ fn issue_from(
     if !are_given(name, expiry, level) {
         return Written::Refused(103);
     }
-    let ship = permit::user_permit::read_user_permit(register, permit);
+    let ship = user_permit::read_user_permit(register, permit);
     issue_for(book, tenant, name, expiry, level, ship, out)
 }
 
@@ -162,7 +162,7 @@ fn check_by(book: &[u8], tenant: u32, hw: u64, today: u32, line: &[u8]) -> Line
         return Line::Refused(102);
     }
     let setting = layout::setting_of(book, tenant);
-    permit::line::read_line(hw, today, setting.days, line)
+    cell_permit::read_line(hw, today, setting.days, line)
 }
 
 // Checks a line, given without CR LF, with the tenant's own warning days.

@@ -19,7 +19,7 @@ use tenants::Held;
 fn is_held(cell: Held) -> bool
     ensures { λ r. ⌜ r ≡ isHeld cell ⌝ }
 {
-    if !permit::identifiers::is_cell_name(cell.name) {
+    if !forms::identifiers::is_cell_name(cell.name) {
         return false;
     }
     if cell.edition < 1 {
@@ -93,7 +93,7 @@ pub fn withdraw(book: &mut [u8], tenant: u32, name: u64) -> u32
     if 15 < tenant {
         return 102;
     }
-    if !permit::identifiers::is_cell_name(name) {
+    if !forms::identifiers::is_cell_name(name) {
         return 103;
     }
     let Found::At(i) = super::finding::find(book, tenant, name) else {

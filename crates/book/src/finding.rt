@@ -4,17 +4,17 @@ ghost use mathlib.Core.Bool.{true};
 ghost use Prim.Native.Nat.{_≤_, _<_};
 ghost use lib.Dec.{ltb, eqb};
 ghost use lib.ListN.{length};
-ghost use Rattle.text.specs.Places.{numberAt};
+ghost use Rattle.bytes.specs.Places.{numberAt};
 ghost use Rattle.tenants.specs.Together.{fullName, cellIn};
 ghost use Rattle.layout.specs.Layout.{recordAt, bookOf, isBook};
 ghost use Rattle.book.specs.OnBook.{ownIn};
 ghost use Rattle.book.specs.Finding.{placeOf, foundIn};
+use bytes::numbers::number16;
+use bytes::numbers::number40;
+use bytes::numbers::number64;
 use layout::RECORD_SIZE;
 use layout::RECORDS_PLACE;
 use tenants::Held;
-use text::numbers::number16;
-use text::numbers::number40;
-use text::numbers::number64;
 use text::reading::byte_at;
 
 // Where a cell stands among the records, or where it would go.

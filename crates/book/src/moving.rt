@@ -3,7 +3,7 @@ ghost use mathlib.Core.Path.{_≡_};
 ghost use mathlib.Core.List.{_++_};
 ghost use Prim.Native.Nat.{_+_, _≤_, _<_};
 ghost use lib.ListN.{length};
-ghost use Rattle.text.specs.Numbers.{bytesOf};
+ghost use Rattle.bytes.specs.Numbers.{bytesOf};
 ghost use Rattle.text.specs.Texts.{placed};
 ghost use Rattle.tenants.specs.Together.{fullName, inBook};
 ghost use Rattle.layout.specs.Layout.{recordSize, bookSize, zeros, recordBytes};
@@ -52,7 +52,7 @@ fn put_full_name(book: &mut [u8], at: usize, tenant: u32, name: u64)
     ensures { λ _. ⌜ now (book .exit) ≡ placed at (bytesOf 9 (fullName tenant name)) (now (book .entry)) ⌝ }
 {
     let first = [tenant as u8];
-    let rest = text::numbers::bytes64(name);
+    let rest = bytes::numbers::bytes64(name);
     text::writing::put_text(book, at, &first);
     text::writing::put_text(book, at + 1, &rest);
 }
@@ -62,8 +62,8 @@ fn put_keys(book: &mut [u8], at: usize, key1: u64, key2: u64)
     requires { ⌜ at + 13 ≤ length (now book) ⌝ }
     ensures { λ _. ⌜ now (book .exit) ≡ placed at (bytesOf 5 key1 ++ (bytesOf 5 key2 ++ zeros 3)) (now (book .entry)) ⌝ }
 {
-    let one = text::numbers::bytes40(key1);
-    let two = text::numbers::bytes40(key2);
+    let one = bytes::numbers::bytes40(key1);
+    let two = bytes::numbers::bytes40(key2);
     let spare = [0u8; 3];
     text::writing::put_text(book, at, &one);
     text::writing::put_text(book, at + 5, &two);
@@ -75,7 +75,7 @@ pub(crate) fn put_record(book: &mut [u8], at: usize, tenant: u32, cell: Held)
     requires { ⌜ (tenant < 256) × (cell .edition < 65536) × (at + recordSize ≤ length (now book)) ⌝ }
     ensures { λ _. ⌜ now (book .exit) ≡ placed at (recordBytes (inBook tenant cell)) (now (book .entry)) ⌝ }
 {
-    let edition = text::numbers::bytes16(cell.edition as u16);
+    let edition = bytes::numbers::bytes16(cell.edition as u16);
     put_full_name(book, at, tenant, cell.name);
     text::writing::put_text(book, at + 9, &edition);
     put_keys(book, at + 11, cell.key1, cell.key2);
@@ -86,7 +86,7 @@ fn put_used(book: &mut [u8], n: usize)
     requires { ⌜ n < 1000 ⌝ }
     ensures { λ _. ⌜ now (book .exit) ≡ usedPut n (now (book .entry)) ⌝ }
 {
-    let used = text::numbers::bytes32((RECORDS_PLACE + RECORD_SIZE * n) as u32);
+    let used = bytes::numbers::bytes32((RECORDS_PLACE + RECORD_SIZE * n) as u32);
     text::writing::put_text(book, 1, &used);
 }
 

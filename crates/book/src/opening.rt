@@ -4,7 +4,7 @@ ghost use mathlib.Core.List.{[]};
 ghost use Prim.Native.Nat.{_<_};
 ghost use lib.ListN.{length};
 ghost use Rattle.text.specs.Texts.{placed};
-ghost use Rattle.permit.specs.Output.{writtenNumber, writtenOf, lentAfter};
+ghost use Rattle.forms.specs.Output.{writtenNumber, writtenOf, lentAfter};
 ghost use Rattle.tenants.specs.Together.{quotaSum};
 ghost use Rattle.layout.specs.Layout.{settingsPlace, settingBytes, allBytes, bookSize, bookBytes, eachFrom, zeros};
 ghost use Rattle.book.specs.Opening.{firstSetting, emptyBook, areGiven, opened};
@@ -63,7 +63,7 @@ fn first_setting(quotas: &[u16], ids: &[u8], t: usize) -> Setting
     Setting {
         quota: quotas[t] as u32,
         days: 30,
-        server: text::numbers::number16(ids, 2 * t) as u32,
+        server: bytes::numbers::number16(ids, 2 * t) as u32,
     }
 }
 

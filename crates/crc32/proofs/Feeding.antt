@@ -8,7 +8,7 @@ use native.Mathlib.Omega.{arith}
 use lib.Bits.{bitXor}
 use lib.ListN.{length, getD, drop}
 use lib.Seq.{drop-cons}
-use Rattle.text.specs.Numbers.{Below}
+use Rattle.bytes.specs.Numbers.{Below}
 use Rattle.crc32.specs.Crc32.{shifts, feed, feedAll}
 use Rattle.crc32.specs.Table.{wordAt}
 use Rattle.crc32.proofs.Shifts.{feed-above}

@@ -4,7 +4,7 @@ use mathlib.Core.Path.{_≡_, refl, sym, ap, _∙_}
 use Prim.Native.Nat.{ℕ, _+_, _*_, _/_, _%_, _^_, _<_}
 use native.Mathlib.Omega.{arith}
 use lib.Bits.{bitXor, xor-comm}
-use Rattle.text.proofs.Xor.{xor-assoc}
+use Rattle.bytes.proofs.Xor.{xor-assoc}
 use Rattle.crc32.specs.Crc32.{shifts, feed}
 use Rattle.crc32.specs.Table.{digitOut}
 use Rattle.crc32.proofs.Shifts.{shifts-parts, byte-from-top, feed-low}

@@ -10,8 +10,8 @@ use lib.Bits.{bitXor, xor-shr, xor-lt}
 use lib.Dec.{lit<}
 use lib.ListN.{getD}
 use lib.Seq.{ext-getD}
-use Rattle.text.specs.Numbers.{Below}
-use Rattle.text.proofs.Xor.{Bit, low-bit, xor-cancel-right, xor-cancel-left}
+use Rattle.bytes.specs.Numbers.{Below}
+use Rattle.bytes.proofs.Xor.{Bit, low-bit, xor-cancel-right, xor-cancel-left}
 use Rattle.crc32.specs.Crc32.{polynomial, allOnes, shift, shifts, feed, feedAll, crc32Of}
 use Rattle.crc32.specs.OneChange.{DifferAt, OneChange}
 

@@ -7,7 +7,7 @@ use native.Mathlib.Nat.{mod-lt, mul-one, div-eq-of-lt, pow-zero, suc-add, zero-a
 use native.Mathlib.Omega.{arith}
 use lib.Bits.{bitXor, differ, xor-shr, xor-shifted, shifted-half, shifted-even, xor-zero-r, xor-comm}
 use lib.Pow.{split, pow-pos}
-use Rattle.text.proofs.Xor.{Bit, low-bit, xor-half, xor-low, xor-assoc, xor-pairs}
+use Rattle.bytes.proofs.Xor.{Bit, low-bit, xor-half, xor-low, xor-assoc, xor-pairs}
 use Rattle.crc32.specs.Crc32.{polynomial, shift, shifts, feed}
 
 fed-back : (x y : ℕ) → Bit x → Bit y → differ x y * polynomial ≡ bitXor (x * polynomial) (y * polynomial)

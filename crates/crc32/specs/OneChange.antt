@@ -3,7 +3,7 @@ use mathlib.Core.Path.{_≡_}
 use mathlib.Core.List.{List}
 use Prim.Native.Nat.{ℕ, _<_}
 use lib.ListN.{length, getD}
-use Rattle.text.specs.Numbers.{Below}
+use Rattle.bytes.specs.Numbers.{Below}
 use Rattle.crc32.specs.Crc32.{crc32Of}
 
 -- s and t have one length and differ at i and nowhere else

@@ -5,13 +5,13 @@ use mathlib.Core.Bool.{true, false}
 use mathlib.Core.List.{List, [], _∷_}
 use lib.IntN.{ℤ, pos, negℤ}
 use lib.ListN.{getD}
-use Rattle.text.specs.Places.{numberAt}
+use Rattle.bytes.specs.Places.{numberAt}
 use Rattle.dates.specs.Calendar.{isDate}
 use Rattle.dates.specs.Notice.{daysLeft, noticeOf, noticeNumber}
-use Rattle.permit.specs.Identifiers.{hwId6}
-use Rattle.permit.specs.UserPermit.{mIdPart}
-use Rattle.permit.specs.Line.{givenNumber}
-use Rattle.permit.specs.Output.{text}
+use Rattle.forms.specs.Identifiers.{hwId6}
+use Rattle.user_permit.specs.UserPermit.{mIdPart}
+use Rattle.cell_permit.specs.Line.{givenNumber}
+use Rattle.forms.specs.Output.{text}
 use Rattle.tenants.specs.declared.Held.{Held}
 use Rattle.tenants.specs.Rules.{isTenant, isHeld}
 use Rattle.book.specs.Opening.{opened}

@@ -6,10 +6,10 @@ use Prim.Native.Nat.{ℕ, _-_}
 use native.Mathlib.Omega.{arith}
 use lib.ListN.{length, take, drop, length-drop}
 use lib.Seq.{take-all}
-use Rattle.permit.specs.Line.{commentOf, commentAt}
-use Rattle.permit.specs.declared.line.CommentPlace.{CommentPlace}
-use Rattle.permit.specs.declared.line.CommentPlace.the-variants.{At, None}
-use Rattle.permit.proofs.Comments.{comment-from, empty-comment}
+use Rattle.cell_permit.specs.Line.{commentOf, commentAt}
+use Rattle.cell_permit.specs.declared.CommentPlace.{CommentPlace}
+use Rattle.cell_permit.specs.declared.CommentPlace.the-variants.{At, None}
+use Rattle.cell_permit.proofs.Comments.{comment-from, empty-comment}
 use Rattle.lambukir.specs.Permits.{partFrom}
 use Rattle.lambukir.specs.CommentPart.{PartIsComment}
 

@@ -3,7 +3,7 @@ use mathlib.Core.Path.{_≡_}
 use mathlib.Core.List.{List}
 use Prim.Native.Nat.{ℕ}
 use lib.ListN.{take, drop}
-use Rattle.permit.specs.Line.{commentOf}
+use Rattle.cell_permit.specs.Line.{commentOf}
 use Rattle.lambukir.specs.Permits.{commentPart}
 
 -- so many bytes of the line as the part has, from its start on, are the comment

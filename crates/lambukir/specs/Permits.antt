@@ -2,16 +2,18 @@
 use mathlib.Core.List.{List}
 use Prim.Native.Nat.{ℕ, _-_}
 use lib.ListN.{length}
-use Rattle.permit.specs.Output.{writtenNumber}
-use Rattle.permit.specs.UserPermit.{userPermitNumber}
-use Rattle.permit.specs.Line.{commentAt, lineNumber}
-use Rattle.permit.specs.Answers.{writtenLength, shipHwId, shipMId, lineValues}
-use Rattle.permit.specs.declared.Written.{Written}
-use Rattle.permit.specs.declared.line.Cell.{Cell}
-use Rattle.permit.specs.declared.line.Line.{Line}
-use Rattle.permit.specs.declared.line.CommentPlace.{CommentPlace}
-use Rattle.permit.specs.declared.line.CommentPlace.the-variants as place
-use Rattle.permit.specs.declared.user_permit.UserPermit.{UserPermit}
+use Rattle.forms.specs.Output.{writtenNumber}
+use Rattle.user_permit.specs.UserPermit.{userPermitNumber}
+use Rattle.cell_permit.specs.Line.{commentAt, lineNumber}
+use Rattle.forms.specs.Output.{writtenLength}
+use Rattle.user_permit.specs.Answers.{shipHwId, shipMId}
+use Rattle.cell_permit.specs.Answers.{lineValues}
+use Rattle.forms.specs.declared.Written.{Written}
+use Rattle.cell_permit.specs.declared.Cell.{Cell}
+use Rattle.cell_permit.specs.declared.Line.{Line}
+use Rattle.cell_permit.specs.declared.CommentPlace.{CommentPlace}
+use Rattle.cell_permit.specs.declared.CommentPlace.the-variants as place
+use Rattle.user_permit.specs.declared.UserPermit.{UserPermit}
 use Rattle.lambukir.specs.declared.permits.UserPermitRead.{UserPermitRead}
 use Rattle.lambukir.specs.declared.permits.LineRead.{LineRead}
 use Rattle.lambukir.specs.declared.permits.TextWritten.{TextWritten}

@@ -1,8 +1,8 @@
 // The book for C.
 ghost use mathlib.Core.Path.{_≡_};
 ghost use lib.ListN.{length};
-ghost use Rattle.permit.specs.Output.{writtenOf, lentAfter};
-ghost use Rattle.permit.specs.Output as output;
+ghost use Rattle.forms.specs.Output.{writtenOf, lentAfter};
+ghost use Rattle.forms.specs.Output as output;
 ghost use Rattle.tenants.specs.Rules.{changeNumber};
 ghost use Rattle.book.specs.Opening.{opened};
 ghost use Rattle.book.specs.OnBook.{entry, withdrawal, newDays, bytesAfter, editionIn, issuedFrom, checkedBy};

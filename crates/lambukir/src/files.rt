@@ -46,7 +46,7 @@ fn no_record(next: usize, number: u32, end: u32) -> FileLineRead
     }
 }
 
-fn with_record(r: permit::line::Record, next: usize) -> FileLineRead
+fn with_record(r: cell_permit::Record, next: usize) -> FileLineRead
     ensures { λ a. ⌜ a ≡ fileLineRead (Record r (cursor next)) ⌝ }
 {
     let notice = r.notice;

@@ -1,16 +1,16 @@
 // Permits for C.
 ghost use mathlib.Core.Path.{_≡_};
 ghost use lib.ListN.{length};
-ghost use Rattle.permit.specs.Output.{writtenOf, lentAfter, writtenNumber};
-ghost use Rattle.permit.specs.UserPermit.{made, readPermit};
-ghost use Rattle.permit.specs.CellPermit.{writtenLine};
-ghost use Rattle.permit.specs.Line.{readLine};
+ghost use Rattle.forms.specs.Output.{writtenOf, lentAfter, writtenNumber};
+ghost use Rattle.user_permit.specs.UserPermit.{made, readPermit};
+ghost use Rattle.cell_permit.specs.CellPermit.{writtenLine};
+ghost use Rattle.cell_permit.specs.Line.{readLine};
 ghost use Rattle.lambukir.specs.Permits.{cellFrom, userPermitRead, lineRead, textWritten, commentPart};
-use permit::Written;
-use permit::line::Cell;
-use permit::line::CommentPlace;
-use permit::line::Line;
-use permit::user_permit::UserPermit;
+use cell_permit::Cell;
+use cell_permit::CommentPlace;
+use cell_permit::Line;
+use forms::Written;
+use user_permit::UserPermit;
 
 // lambukir_user_permit of the header.
 #[repr(C)]
@@ -76,7 +76,7 @@ pub(crate) fn line_read(answer: Line) -> LineRead
             level: r.level,
             edition: r.edition,
             server: r.server,
-            number: permit::line::line_number(answer),
+            number: cell_permit::line_number(answer),
         },
         Line::Refused(number) => LineRead {
             name: 0,
@@ -108,28 +108,28 @@ pub extern "C" fn lambukir_make_user_permit(register: &[u8], hw: u64, m: u32, ou
     ensures { λ r. ⌜ (r ≡ writtenNumber (writtenOf (made (now (register .entry)) hw m (length (now (out .entry))))))
         × (now (out .exit) ≡ lentAfter (made (now (register .entry)) hw m (length (now (out .entry)))) (now (out .entry))) ⌝ }
 {
-    text_written(permit::user_permit::make_user_permit(register, hw, m, out)).number
+    text_written(user_permit::make_user_permit(register, hw, m, out)).number
 }
 
 #[no_mangle]
 pub extern "C" fn lambukir_read_user_permit(register: &[u8], permit: &[u8]) -> UserPermitRead
     ensures { λ r. ⌜ r ≡ userPermitRead (readPermit (now (register .entry)) (now (permit .entry))) ⌝ }
 {
-    user_permit_read(permit::user_permit::read_user_permit(register, permit))
+    user_permit_read(user_permit::read_user_permit(register, permit))
 }
 
 #[no_mangle]
 pub extern "C" fn lambukir_read_line(hw: u64, today: u32, days: u32, line: &[u8]) -> LineRead
     ensures { λ r. ⌜ r ≡ lineRead (readLine hw today days (now (line .entry))) ⌝ }
 {
-    line_read(permit::line::read_line(hw, today, days, line))
+    line_read(cell_permit::read_line(hw, today, days, line))
 }
 
 #[no_mangle]
 pub extern "C" fn lambukir_comment(line: &[u8]) -> Part
     ensures { λ r. ⌜ r ≡ commentPart (now (line .entry)) ⌝ }
 {
-    match permit::line::comment_place(line) {
+    match cell_permit::comment_place(line) {
         CommentPlace::At(start) => Part {
             start: start as u64,
             length: (line.len() - start) as u64,
@@ -165,5 +165,5 @@ pub extern "C" fn lambukir_write_line(
         edition,
         server,
     };
-    text_written(permit::writing_line::write_line(hw, cell, out))
+    text_written(writing_line::write_line(hw, cell, out))
 }

@@ -6,7 +6,7 @@ use Prim.Native.Nat.{ℕ, zero, suc, _+_, _≤_, _<_}
 use native.Mathlib.Omega.{arith}
 use borrow.Author.Tests.{eqb-true, eqb-false}
 use lib.Dec.{eqb}
-use Rattle.text.proofs.Every.{and-first, and-second, either}
+use Rattle.bytes.proofs.Every.{and-first, and-second, either}
 use Rattle.layout.specs.Judging.{allFrom}
 
 module _ (test : ℕ → Bool) where

@@ -9,9 +9,9 @@ use borrow.Author.Tests.{eqb-true, leb-true, ltb-true}
 use lib.Dec.{leb, eqb}
 use lib.ListN.{length}
 use Rattle.text.specs.Characters.{isNameCharacter}
-use Rattle.text.proofs.Every.{and-first, and-second}
-use Rattle.permit.specs.Identifiers.{isCellName, isCellKey, isServerId}
-use Rattle.permit.proofs.GoodCell.{text-fits}
+use Rattle.bytes.proofs.Every.{and-first, and-second}
+use Rattle.forms.specs.Identifiers.{isCellName, isCellKey, isServerId}
+use Rattle.forms.proofs.Fits.{text-fits}
 use Rattle.tenants.specs.declared.Setting.{Setting}
 use Rattle.tenants.specs.Rules.{isTenant, isDays, isHeld}
 use Rattle.tenants.specs.Cells.{startsAbove}

@@ -8,11 +8,11 @@ use Prim.Native.Nat.{ℕ, zero, suc, _+_, _-_, _*_, _≤_, _<_}
 use native.Mathlib.Omega.{arith}
 use lib.ListN.{length, getD, take, drop, length-append, length-drop, List·getD-append}
 use lib.Seq.{drop-cons, take-all, getD-append-add, split-at, length-take-le}
-use Rattle.text.specs.Numbers.{digits, Below, bytesOf}
-use Rattle.text.specs.Places.{numberAt}
+use Rattle.bytes.specs.Numbers.{digits, Below, bytesOf}
+use Rattle.bytes.specs.Places.{numberAt}
 use Rattle.text.specs.Texts.{part}
-use Rattle.text.proofs.Digits.{digits-length}
-use Rattle.text.proofs.Places.{bytes-at}
+use Rattle.bytes.proofs.Digits.{digits-length}
+use Rattle.bytes.proofs.Places.{bytes-at}
 use Rattle.tenants.specs.declared.Setting.{Setting}
 use Rattle.tenants.specs.Together.{BookRecord, Book}
 use Rattle.layout.specs.Layout.{

@@ -8,11 +8,11 @@ use native.Mathlib.Omega.{arith}
 use borrow.Author.Tests.{le-leb, eq-eqb}
 use lib.Dec.{leb, eqb}
 use lib.ListN.{length, getD, drop}
-use Rattle.text.specs.Numbers.{Below}
-use Rattle.text.specs.Characters.{allOf}
-use Rattle.text.specs.Places.{numberAt}
+use Rattle.bytes.specs.Numbers.{Below}
+use Rattle.bytes.specs.Every.{allOf}
+use Rattle.bytes.specs.Places.{numberAt}
 use Rattle.text.specs.Texts.{sameText}
-use Rattle.text.proofs.Every.{and-first, and-second, either, same-tests}
+use Rattle.bytes.proofs.Every.{and-first, and-second, either, same-tests}
 use Rattle.text.proofs.SameTexts.{same-refl}
 use Rattle.tenants.specs.Cells.{startsAbove}
 use Rattle.tenants.specs.Together.{fullName, areSettings, quotaSum, areRecords, withinQuotas, isGood}

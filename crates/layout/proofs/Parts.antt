@@ -7,10 +7,10 @@ use native.Mathlib.Nat.{le-of-suc-le-suc, not-suc-le-zero, zero-add, suc-add}
 use native.Mathlib.Omega.{arith}
 use lib.ListN.{length, getD, take, drop}
 use lib.Seq.{take-take, drop-drop}
-use Rattle.text.specs.Numbers.{bytesNumber}
-use Rattle.text.specs.Places.{numberAt}
+use Rattle.bytes.specs.Numbers.{bytesNumber}
+use Rattle.bytes.specs.Places.{numberAt}
 use Rattle.text.specs.Texts.{part}
-use Rattle.text.proofs.Places.{number-within, part-length}
+use Rattle.bytes.proofs.Places.{number-within, part-length}
 use Rattle.layout.proofs.Told.{byte-number}
 
 -- a part that is lent from one place to another

@@ -6,7 +6,7 @@ use borrow.Author.Tests.{eqb-true, eq-eqb}
 use lib.Dec.{eqb}
 use lib.ListN.{length}
 use Rattle.text.specs.Texts.{sameText}
-use Rattle.text.proofs.Every.{and-first, and-second}
+use Rattle.bytes.proofs.Every.{and-first, and-second}
 use Rattle.text.proofs.SameTexts.{same-true, same-refl}
 use Rattle.tenants.specs.Together.{Book, isGood}
 use Rattle.layout.specs.Layout.{bookSize, bookBytes, bookOf, isBook}

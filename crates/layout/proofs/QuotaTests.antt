@@ -7,7 +7,7 @@ use Prim.Native.Nat.{ℕ, zero, suc, _≤_, _<_}
 use borrow.Author.Tests.{le-leb, lt-leb}
 use lib.Dec.{leb}
 use lib.ListN.{length}
-use Rattle.text.specs.Places.{numberAt}
+use Rattle.bytes.specs.Places.{numberAt}
 use Rattle.tenants.specs.Together.{BookRecord, cellsOf, withinQuotas}
 use Rattle.layout.specs.Layout.{settingPlace, settingAt, eachFrom}
 use Rattle.layout.specs.Judging.{allFrom, quotaTest}

@@ -6,10 +6,10 @@ use Prim.Native.Nat.{ℕ, _+_, _-_, _^_, _<_}
 use native.Mathlib.Nat.{mod-eq-of-lt}
 use native.Mathlib.Omega.{arith}
 use lib.ListN.{length, length-append}
-use Rattle.text.specs.Numbers.{bytesOf}
-use Rattle.text.specs.Places.{numberAt}
-use Rattle.text.proofs.Digits.{digits-length}
-use Rattle.text.proofs.Places.{number-written}
+use Rattle.bytes.specs.Numbers.{bytesOf}
+use Rattle.bytes.specs.Places.{numberAt}
+use Rattle.bytes.proofs.Digits.{digits-length}
+use Rattle.bytes.proofs.Places.{number-written}
 use Rattle.tenants.specs.declared.Setting.{Setting}
 use Rattle.tenants.specs.Together.{BookRecord, Book}
 use Rattle.layout.specs.Layout.{

@@ -10,11 +10,11 @@ use borrow.Author.Tests.{le-leb, lt-leb, leb-true, leb-false, ltb-true, lt-ltb, 
 use lib.Dec.{leb, ltb, eqb}
 use lib.ListN.{length, getD, set, replicate, getD-replicate, length-replicate, length-set}
 use lib.Seq.{getD-set-same, getD-set-other}
-use Rattle.text.specs.Numbers.{Below}
-use Rattle.text.specs.Places.{numberAt}
-use Rattle.text.proofs.Every.{either, same-tests}
-use Rattle.text.proofs.Places.{number-beyond, number-join, number-at-below}
-use Rattle.permit.specs.Identifiers.{isCellName}
+use Rattle.bytes.specs.Numbers.{Below}
+use Rattle.bytes.specs.Places.{numberAt}
+use Rattle.bytes.proofs.Every.{either, same-tests}
+use Rattle.bytes.proofs.Places.{number-beyond, number-join, number-at-below}
+use Rattle.forms.specs.Identifiers.{isCellName}
 use Rattle.tenants.specs.Rules.{isTenant}
 use Rattle.tenants.specs.Together.{names, fullName}
 use Rattle.layout.specs.Layout.{recordSize, settingPlace, recordPlace, usedLength}

@@ -8,11 +8,11 @@ use native.Mathlib.Omega.{arith}
 use borrow.Author.Tests.{le-leb, lt-leb, eqb-true, eq-eqb}
 use lib.Dec.{leb}
 use lib.ListN.{length, getD}
-use Rattle.text.specs.Numbers.{Below}
-use Rattle.text.specs.Places.{numberAt}
-use Rattle.text.proofs.Every.{and-first, and-second}
-use Rattle.text.proofs.Places.{number-at-below}
-use Rattle.permit.specs.Identifiers.{isServerId}
+use Rattle.bytes.specs.Numbers.{Below}
+use Rattle.bytes.specs.Places.{numberAt}
+use Rattle.bytes.proofs.Every.{and-first, and-second}
+use Rattle.bytes.proofs.Places.{number-at-below}
+use Rattle.forms.specs.Identifiers.{isServerId}
 use Rattle.tenants.specs.declared.Setting.{Setting}
 use Rattle.tenants.specs.Rules.{isDays}
 use Rattle.tenants.specs.Together.{isSetting, areSettings}

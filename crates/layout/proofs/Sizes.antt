@@ -5,7 +5,7 @@ use mathlib.Core.List.{List}
 use Prim.Native.Nat.{_*_, _≤_}
 use native.Mathlib.Omega.{arith}
 use lib.ListN.{length, length-append, length-replicate}
-use Rattle.text.proofs.Digits.{digits-length}
+use Rattle.bytes.proofs.Digits.{digits-length}
 use Rattle.tenants.specs.declared.Setting.{Setting}
 use Rattle.tenants.specs.Together.{BookRecord, Book}
 use Rattle.layout.specs.Layout.{settingSize, recordSize, bookSize, settingBytes, recordBytes, allBytes, bookBytes}

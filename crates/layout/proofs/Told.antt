@@ -7,9 +7,9 @@ use native.Mathlib.Omega.{arith}
 use borrow.Author.Tests.{leb-true, leb-false}
 use lib.Dec.{leb}
 use lib.ListN.{length, getD, List·getD-eq-default}
-use Rattle.text.specs.Places.{numberAt}
-use Rattle.text.proofs.Every.{either}
-use Rattle.text.proofs.Places.{number-one, number-beyond}
+use Rattle.bytes.specs.Places.{numberAt}
+use Rattle.bytes.proofs.Every.{either}
+use Rattle.bytes.proofs.Places.{number-one, number-beyond}
 use Rattle.tenants.specs.declared.Setting.{Setting}
 use Rattle.layout.specs.Layout.{settingPlace, settingAt, recordCount}
 

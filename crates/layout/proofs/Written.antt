@@ -6,10 +6,10 @@ use Prim.Native.Nat.{ℕ, zero, suc, _+_, _≤_, _<_}
 use native.Mathlib.Omega.{arith}
 use lib.ListN.{length, getD, take}
 use lib.Seq.{drop-cons}
-use Rattle.text.specs.Numbers.{digits, Below, bytesOf}
-use Rattle.text.specs.Places.{numberAt}
+use Rattle.bytes.specs.Numbers.{digits, Below, bytesOf}
+use Rattle.bytes.specs.Places.{numberAt}
 use Rattle.text.specs.Texts.{part}
-use Rattle.text.proofs.Places.{bytes-at}
+use Rattle.bytes.proofs.Places.{bytes-at}
 use Rattle.layout.specs.Layout.{zeros, settingBytes, recordBytes, settingPlace, recordPlace, settingAt, recordAt}
 use Rattle.layout.proofs.Each.{meet}
 

@@ -11,8 +11,8 @@ use lib.Bits.{bitOr, or-add-and, and-le-l, and-le-r}
 use lib.Dec.{ltb}
 use lib.ListN.{length, getD, drop, drop-of-length-le, List·getD-eq-default}
 use lib.Seq.{drop-cons, getD-drop}
-use Rattle.text.specs.Characters.{allOf}
-use Rattle.text.proofs.Every.{and-first, and-second, either, same-tests, all-at, at-all}
+use Rattle.bytes.specs.Every.{allOf}
+use Rattle.bytes.proofs.Every.{and-first, and-second, either, same-tests, all-at, at-all}
 use Rattle.layout.specs.Judging.{isZero}
 
 or-none : (a b : ℕ) → isZero (bitOr a b) ≡ (isZero a && isZero b)

@@ -4,9 +4,9 @@ use mathlib.Core.List.{List}
 use Prim.Native.Nat.{ℕ, zero, suc, _+_}
 use lib.Dec.{leb, ltb, eqb}
 use lib.ListN.{getD}
-use Rattle.text.specs.Places.{numberAt}
+use Rattle.bytes.specs.Places.{numberAt}
 use Rattle.text.specs.Texts.{part}
-use Rattle.permit.specs.Identifiers.{isCellName, isServerId}
+use Rattle.forms.specs.Identifiers.{isCellName, isServerId}
 use Rattle.tenants.specs.Rules.{isTenant, isDays}
 use Rattle.tenants.specs.Together.{fullName, quotaSum}
 use Rattle.layout.specs.Layout.{settingSize, settingPlace, recordSize, recordPlace, settingAt, eachFrom}

@@ -4,8 +4,8 @@ use mathlib.Core.List.{List, [], _∷_, _++_}
 use Prim.Native.Nat.{ℕ, zero, suc, _+_, _-_, _*_, _/_}
 use lib.Dec.{eqb}
 use lib.ListN.{length, replicate}
-use Rattle.text.specs.Numbers.{bytesOf}
-use Rattle.text.specs.Places.{numberAt}
+use Rattle.bytes.specs.Numbers.{bytesOf}
+use Rattle.bytes.specs.Places.{numberAt}
 use Rattle.text.specs.Texts.{sameText}
 use Rattle.tenants.specs.declared.Setting.{Setting}
 use Rattle.tenants.specs.Together.{Book, BookRecord, full, isGood}

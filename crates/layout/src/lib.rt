@@ -2,15 +2,15 @@
 ghost use mathlib.Core.Path.{_≡_};
 ghost use Prim.Native.Nat.{_≤_};
 ghost use lib.ListN.{length, getD};
-ghost use Rattle.text.specs.Characters.{allOf};
+ghost use Rattle.bytes.specs.Every.{allOf};
 ghost use Rattle.layout.specs.Layout.{recordsPlace, usedLength, recordCount, settingAt, isBook};
 ghost use Rattle.layout.specs.Judging.{isZero, allFrom, settingTest, settingsTest, aboveTest, recordTest, quotaTest, recordsTest};
-use permit::identifiers::is_cell_name;
-use permit::identifiers::is_server_id;
+use bytes::numbers::number16;
+use bytes::numbers::number32;
+use bytes::numbers::number64;
+use forms::identifiers::is_cell_name;
+use forms::identifiers::is_server_id;
 use tenants::Setting;
-use text::numbers::number16;
-use text::numbers::number32;
-use text::numbers::number64;
 use text::reading::byte_at;
 
 // How many bytes a book has.

@@ -8,11 +8,11 @@ use native.Mathlib.Omega.{arith}
 use lib.Dec.{ltb, eqb}
 use lib.ListN.{length, getD, length-take, length-drop}
 use Rattle.text.specs.Texts.{part, standsAt, decimalAt}
-use Rattle.text.specs.declared.numbers.Reading.the-variants.{Number, Wrong}
-use Rattle.text.proofs.Every.{and-second}
+use Rattle.bytes.specs.declared.numbers.Reading.the-variants.{Number, Wrong}
+use Rattle.bytes.proofs.Every.{and-second}
 use Rattle.text.proofs.NumbersAt.{decimal-number, decimal-wrong}
 use Rattle.text.proofs.SameTexts.{same-true}
-use Rattle.permit.specs.DateText.{isDateAt}
+use Rattle.forms.specs.DateText.{isDateAt}
 use Rattle.permit_file.specs.File.{headerStart, headerRest, isBelow, isHeader, firstPlace}
 
 module _ (file : List ℕ) (at limit : ℕ) where

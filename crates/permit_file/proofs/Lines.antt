@@ -11,7 +11,7 @@ use borrow.Author.Tests.{ltb-true, ltb-false, eqb-true}
 use lib.Dec.{ltb, eqb}
 use lib.ListN.{length, getD, drop, length-drop}
 use lib.Seq.{drop-cons, getD-drop}
-use Rattle.text.proofs.Every.{and-first, and-second, either}
+use Rattle.bytes.proofs.Every.{and-first, and-second, either}
 use Rattle.permit_file.specs.File.{lineLength, lineEnds}
 
 pub line-within : (s : List ℕ) → lineLength s ≤ length s

@@ -8,11 +8,11 @@ use native.Mathlib.Omega.{arith}
 use borrow.Author.Tests.{le-leb, ltb-true, eq-eqb, ne-eqb}
 use lib.Dec.{leb, ltb}
 use lib.ListN.{length, take, drop}
-use Rattle.text.proofs.Every.{either}
-use Rattle.permit.specs.CellPermit.{shipWords}
-use Rattle.permit.specs.Line.{givenNumber}
-use Rattle.permit.specs.declared.line.Line.{Line}
-use Rattle.permit.specs.declared.line.Line.the-variants as line
+use Rattle.bytes.proofs.Every.{either}
+use Rattle.cell_permit.specs.CellPermit.{shipWords}
+use Rattle.cell_permit.specs.Line.{givenNumber}
+use Rattle.cell_permit.specs.declared.Line.{Line}
+use Rattle.cell_permit.specs.declared.Line.the-variants as line
 use Rattle.permit_file.specs.File.{cursor, lineEnds, lineAt, endsAt, onward, stepBy, stepWith, stepOf, isEnd, nextPlace}
 use Rattle.permit_file.specs.Steps.{placeAfter, PlacesRise, EndStays, FileEnds}
 use Rattle.permit_file.specs.declared.Step.the-variants.{Record, Refused, End}

@@ -6,13 +6,13 @@ use lib.Dec.{leb, ltb, eqb}
 use lib.ListN.{length, getD, drop}
 use Rattle.text.specs.Characters.{isDigit, decimalNumber}
 use Rattle.text.specs.Texts.{part, allAt, sameText, standsAt}
-use Rattle.permit.specs.Order.{demand}
-use Rattle.permit.specs.DateText.{isDateAt}
-use Rattle.permit.specs.CellPermit.{shipWords}
-use Rattle.permit.specs.Line.{readWith, givenNumber, lineNumber}
-use Rattle.permit.specs.Answers.{LineValues, recordValues, noValues}
-use Rattle.permit.specs.declared.line.Line.{Line}
-use Rattle.permit.specs.declared.line.Line.the-variants as line
+use Rattle.forms.specs.Order.{demand}
+use Rattle.forms.specs.DateText.{isDateAt}
+use Rattle.cell_permit.specs.CellPermit.{shipWords}
+use Rattle.cell_permit.specs.Line.{readWith, givenNumber, lineNumber}
+use Rattle.cell_permit.specs.Answers.{LineValues, recordValues, noValues}
+use Rattle.cell_permit.specs.declared.Line.{Line}
+use Rattle.cell_permit.specs.declared.Line.the-variants as line
 use Rattle.permit_file.specs.declared.Cursor.{Cursor}
 use Rattle.permit_file.specs.declared.Opened.{Opened}
 use Rattle.permit_file.specs.declared.Opened.the-variants as opened

@@ -4,7 +4,7 @@ use mathlib.Core.Bool.{true, false}
 use mathlib.Core.List.{List}
 use Prim.Native.Nat.{ℕ, zero, suc, _-_, _≤_, _<_}
 use lib.ListN.{length}
-use Rattle.permit.specs.declared.line.Line.{Line}
+use Rattle.cell_permit.specs.declared.Line.{Line}
 use Rattle.permit_file.specs.File.{cursor, stepBy, nextPlace, isEnd}
 use Rattle.permit_file.specs.declared.Step.the-variants.{End}
 

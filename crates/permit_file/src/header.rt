@@ -1,7 +1,7 @@
 // The header of PERMIT.TXT: its date and time, its version, and where its lines begin.
 ghost use mathlib.Core.Path.{_≡_};
 ghost use Rattle.permit_file.specs.File.{isBelow, isHeader};
-use text::numbers::Reading;
+use bytes::numbers::Reading;
 
 // Whether the two digits at a place are a number below a limit.
 fn is_below(limit: u64, file: &[u8], at: usize) -> bool
@@ -20,7 +20,7 @@ pub fn is_header(file: &[u8]) -> bool
     if !text::reading::stands_at(b":DATE ", file, 0) {
         return false;
     }
-    let Reading::Number(_) = permit::date_text::date_at(file, 6) else {
+    let Reading::Number(_) = forms::date_text::date_at(file, 6) else {
         return false;
     };
     if text::reading::byte_at(file, 14) != b' ' {

@@ -3,7 +3,7 @@ ghost use mathlib.Core.Path.{_≡_};
 ghost use Prim.Native.Nat.{_≤_};
 ghost use lib.ListN.{length};
 ghost use Rattle.permit_file.specs.File.{lineEnds, endsAt, onward, stepWith, stepOf, openOf, openNumber};
-use permit::line::Line;
+use cell_permit::Line;
 
 mod header; // header.rt: the header's tests
 
@@ -20,7 +20,7 @@ pub enum Opened {
 
 // What reading one line answers, with the next place inside.
 pub enum Step {
-    Record(permit::line::Record, Cursor),
+    Record(cell_permit::Record, Cursor),
     Refused(u32, Cursor),
     End(Cursor),
 }
@@ -111,7 +111,7 @@ impl Cursor {
         if end == size {
             return Step::Refused(12, Cursor { place: size });
         }
-        let line = permit::line::read_with(words, today, days, &file[place..end]);
+        let line = cell_permit::read_with(words, today, days, &file[place..end]);
         onward(line, Cursor { place: end + 2 })
     }
 
@@ -119,13 +119,13 @@ impl Cursor {
     pub fn step(self, file: &[u8], hw: u64, today: u32, days: u32) -> Step
         ensures { λ r. ⌜ r ≡ stepOf hw today days (now (file .entry)) (self .place) ⌝ }
     {
-        let given = permit::line::given_number(hw, today, days);
+        let given = cell_permit::given_number(hw, today, days);
         let place = self.place;
         if given != 0 {
             return Step::Refused(given, Cursor { place });
         }
         let mut words = [0u32; 1042];
-        permit::line::ship_words(hw, &mut words);
+        cell_permit::ship_words(hw, &mut words);
         Cursor { place }.step_with(file, &words, today, days)
     }
 }

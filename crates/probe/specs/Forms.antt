@@ -2,8 +2,8 @@
 use mathlib.Core.Bool.{cond}
 use Rattle.dates.specs.declared.DaysLeft.{DaysLeft}
 use Rattle.dates.specs.declared.DaysLeft.the-variants.{Passed, Left}
-use Rattle.text.specs.declared.numbers.Reading.{Reading}
-use Rattle.text.specs.Readings.{isRead, valueRead}
+use Rattle.bytes.specs.declared.numbers.Reading.{Reading}
+use Rattle.bytes.specs.Readings.{isRead, valueRead}
 use Rattle.probe.specs.declared.ProbeDaysLeft.{ProbeDaysLeft}
 use Rattle.probe.specs.declared.ProbeUnpadded.{ProbeUnpadded}
 

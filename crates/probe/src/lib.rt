@@ -2,9 +2,9 @@
 ghost use mathlib.Core.Path.{_≡_};
 ghost use Prim.Native.Nat.{_%_};
 ghost use Rattle.text.specs.Characters.{isDigit, isHex, isNameCharacter, hexValue, hexCharacter, digitValue, digitCharacter};
-ghost use Rattle.text.specs.Numbers.{bytesOf};
-ghost use Rattle.text.specs.Places.{numberAt};
-ghost use Rattle.text.specs.Padding.{padOf, unpadOf};
+ghost use Rattle.bytes.specs.Numbers.{bytesOf};
+ghost use Rattle.bytes.specs.Places.{numberAt};
+ghost use Rattle.bytes.specs.Padding.{padOf, unpadOf};
 ghost use Rattle.blowfish.specs.Cipher.{encipherOf, decipherOf};
 ghost use Rattle.blowfish.specs.Schedule.{keyNumber, scheduled};
 ghost use Rattle.dates.specs.Calendar.{isDate, dayNumber};
@@ -128,78 +128,78 @@ pub extern "C" fn probe_is_name_character(c: u8) -> bool
 pub extern "C" fn probe_number16(s: &[u8], at: usize) -> u64
     ensures { λ r. ⌜ r ≡ numberAt 2 (now (s .entry)) at ⌝ }
 {
-    text::numbers::number16(s, at) as u64
+    bytes::numbers::number16(s, at) as u64
 }
 
 #[no_mangle]
 pub extern "C" fn probe_number32(s: &[u8], at: usize) -> u64
     ensures { λ r. ⌜ r ≡ numberAt 4 (now (s .entry)) at ⌝ }
 {
-    text::numbers::number32(s, at) as u64
+    bytes::numbers::number32(s, at) as u64
 }
 
 #[no_mangle]
 pub extern "C" fn probe_number40(s: &[u8], at: usize) -> u64
     ensures { λ r. ⌜ r ≡ numberAt 5 (now (s .entry)) at ⌝ }
 {
-    text::numbers::number40(s, at)
+    bytes::numbers::number40(s, at)
 }
 
 #[no_mangle]
 pub extern "C" fn probe_number64(s: &[u8], at: usize) -> u64
     ensures { λ r. ⌜ r ≡ numberAt 8 (now (s .entry)) at ⌝ }
 {
-    text::numbers::number64(s, at)
+    bytes::numbers::number64(s, at)
 }
 
 #[no_mangle]
 pub extern "C" fn probe_bytes16(x: u16, out: &mut [u8; 2])
     ensures { λ _. ⌜ now (out .exit) ≡ bytesOf 2 x ⌝ }
 {
-    *out = text::numbers::bytes16(x);
+    *out = bytes::numbers::bytes16(x);
 }
 
 #[no_mangle]
 pub extern "C" fn probe_bytes32(x: u32, out: &mut [u8; 4])
     ensures { λ _. ⌜ now (out .exit) ≡ bytesOf 4 x ⌝ }
 {
-    *out = text::numbers::bytes32(x);
+    *out = bytes::numbers::bytes32(x);
 }
 
 #[no_mangle]
 pub extern "C" fn probe_bytes40(x: u64, out: &mut [u8; 5])
     ensures { λ _. ⌜ now (out .exit) ≡ bytesOf 5 x ⌝ }
 {
-    *out = text::numbers::bytes40(x);
+    *out = bytes::numbers::bytes40(x);
 }
 
 #[no_mangle]
 pub extern "C" fn probe_bytes64(x: u64, out: &mut [u8; 8])
     ensures { λ _. ⌜ now (out .exit) ≡ bytesOf 8 x ⌝ }
 {
-    *out = text::numbers::bytes64(x);
+    *out = bytes::numbers::bytes64(x);
 }
 
 #[no_mangle]
 pub extern "C" fn probe_pad32(x: u32) -> u64
     ensures { λ r. ⌜ r ≡ padOf 4 x ⌝ }
 {
-    text::padding::pad32(x)
+    bytes::padding::pad32(x)
 }
 
 #[no_mangle]
 pub extern "C" fn probe_pad40(x: u64) -> u64
     ensures { λ r. ⌜ r ≡ padOf 5 x ⌝ }
 {
-    text::padding::pad40(x)
+    bytes::padding::pad40(x)
 }
 
-fn unpadded(u: text::numbers::Reading) -> ProbeUnpadded
+fn unpadded(u: bytes::numbers::Reading) -> ProbeUnpadded
     ensures { λ r. ⌜ r ≡ unpaddedForm u ⌝ }
 {
     match u {
-        text::numbers::Reading::Number(x) => ProbeUnpadded { value: x, right: 1 },
-        text::numbers::Reading::Wrong => ProbeUnpadded { value: 0, right: 0 },
+        bytes::numbers::Reading::Number(x) => ProbeUnpadded { value: x, right: 1 },
+        bytes::numbers::Reading::Wrong => ProbeUnpadded { value: 0, right: 0 },
     }
 }
 
@@ -207,12 +207,12 @@ fn unpadded(u: text::numbers::Reading) -> ProbeUnpadded
 pub extern "C" fn probe_unpad32(block: u64) -> ProbeUnpadded
     ensures { λ r. ⌜ r ≡ unpaddedForm (unpadOf 4 block) ⌝ }
 {
-    unpadded(text::padding::unpad32(block))
+    unpadded(bytes::padding::unpad32(block))
 }
 
 #[no_mangle]
 pub extern "C" fn probe_unpad40(block: u64) -> ProbeUnpadded
     ensures { λ r. ⌜ r ≡ unpaddedForm (unpadOf 5 block) ⌝ }
 {
-    unpadded(text::padding::unpad40(block))
+    unpadded(bytes::padding::unpad40(block))
 }

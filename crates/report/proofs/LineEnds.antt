@@ -11,7 +11,7 @@ use borrow.Author.Tests.{eqb-true}
 use lib.Dec.{eqb}
 use lib.ListN.{length, getD, drop, length-drop}
 use lib.Seq.{drop-cons, drop-drop, getD-drop}
-use Rattle.text.proofs.Every.{and-first, and-second, either}
+use Rattle.bytes.proofs.Every.{and-first, and-second, either}
 use Rattle.permit_file.specs.File.{lineLength, lineEnds}
 use Rattle.report.specs.LookThrough.{lineEndsIn}
 use Rattle.report.specs.Turns.{oneIf}

@@ -6,8 +6,8 @@ use mathlib.Core.List.{List, [], _∷_, _++_, append-assoc, append-nil}
 use Prim.Native.Nat.{ℕ, suc, _+_}
 use native.Mathlib.Omega.{arith}
 use lib.ListN.{length, length-append}
-use Rattle.text.proofs.Every.{either}
-use Rattle.permit.specs.declared.line.Line.{Line}
+use Rattle.bytes.proofs.Every.{either}
+use Rattle.cell_permit.specs.declared.Line.{Line}
 use Rattle.report.specs.LookThrough.{rowOf, rowsFrom, isNoticed, isRefused, countOf}
 use Rattle.report.specs.Turns.{oneIf, tallyOf, counted}
 

@@ -9,13 +9,13 @@ use borrow.Author.Tests.{leb-true, leb-false, eqb-true, eqb-false, le-leb, lt-le
 use lib.Dec.{leb, eqb}
 use lib.ListN.{length, length-append, length-drop}
 use Rattle.text.specs.Texts.{width, placed}
-use Rattle.text.proofs.Every.{either}
+use Rattle.bytes.proofs.Every.{either}
 use Rattle.text.proofs.Numerals.{numeral-length, width-at-most}
 use Rattle.text.proofs.PlacedTexts.{placed-start}
-use Rattle.permit.specs.Output.{text, refusal, writtenOf, lentAfter}
-use Rattle.permit.specs.declared.Written.the-variants as written
-use Rattle.permit.specs.CellPermit.{shipWords}
-use Rattle.permit.specs.Line.{readWith, givenNumber}
+use Rattle.forms.specs.Output.{text, refusal, writtenOf, lentAfter}
+use Rattle.forms.specs.declared.Written.the-variants as written
+use Rattle.cell_permit.specs.CellPermit.{shipWords}
+use Rattle.cell_permit.specs.Line.{readWith, givenNumber}
 use Rattle.permit_file.specs.File.{isHeader, openOf, openNumber, firstPlace}
 use Rattle.permit_file.proofs.Headers.{header-within}
 use Rattle.report.specs.LookThrough.{isFirstLine, hwOf, todayOf, daysOf, fileOf, startNumber, answersOf, encAnswers, rowsFrom, totalsOf, refusedText, report, lineEndsIn, roomFor, reported}

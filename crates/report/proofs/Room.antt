@@ -10,20 +10,20 @@ use borrow.Author.Tests.{leb-true, ltb-true}
 use lib.Dec.{leb, ltb, eqb}
 use lib.ListN.{length, drop, length-append}
 use Rattle.text.specs.Texts.{part, width}
-use Rattle.text.proofs.Digits.{digits-length}
-use Rattle.text.proofs.Every.{either}
+use Rattle.bytes.proofs.Digits.{digits-length}
+use Rattle.bytes.proofs.Every.{either}
 use Rattle.text.proofs.Numerals.{width-at-most, numeral-length}
-use Rattle.permit.specs.Order.{demand}
-use Rattle.text.specs.declared.numbers.Reading.{Reading}
-use Rattle.text.specs.declared.numbers.Reading.the-variants.{Number, Wrong}
+use Rattle.forms.specs.Order.{demand}
+use Rattle.bytes.specs.declared.numbers.Reading.{Reading}
+use Rattle.bytes.specs.declared.numbers.Reading.the-variants.{Number, Wrong}
 use Rattle.dates.specs.Notice.{daysLeft, noticeOf}
 use Rattle.dates.specs.Notice as notice
 use Rattle.dates.specs.declared.Notice.{Notice}
 use Rattle.dates.specs.declared.Notice.the-variants.{Current, Soon, Expired}
-use Rattle.permit.specs.CellPermit.{checkOf}
-use Rattle.permit.specs.Line.{lineNumber, readWith, checked, recordOf, keyUnder, partsOf, isLine}
-use Rattle.permit.specs.declared.line.Line.{Line}
-use Rattle.permit.specs.declared.line.Line.the-variants as line
+use Rattle.cell_permit.specs.CellPermit.{checkOf}
+use Rattle.cell_permit.specs.Line.{lineNumber, readWith, checked, recordOf, keyUnder, partsOf, isLine}
+use Rattle.cell_permit.specs.declared.Line.{Line}
+use Rattle.cell_permit.specs.declared.Line.the-variants as line
 use Rattle.permit_file.specs.File.{cursor, stepBy, onward, lineEnds, lineAt, endsAt, firstPlace, isEnd, nextPlace}
 use Rattle.permit_file.specs.declared.Cursor.{Cursor}
 use Rattle.permit_file.specs.declared.Step.{Step}

@@ -10,12 +10,12 @@ use lib.Dec.{eqb}
 use lib.ListN.{length, getD, length-take, length-drop}
 use Rattle.text.specs.Characters.{isDigit}
 use Rattle.text.specs.Texts.{part, allAt, standsAt, decimalAt}
-use Rattle.text.specs.declared.numbers.Reading.the-variants.{Number, Wrong}
-use Rattle.text.proofs.Every.{and-first, and-second}
+use Rattle.bytes.specs.declared.numbers.Reading.the-variants.{Number, Wrong}
+use Rattle.bytes.proofs.Every.{and-first, and-second}
 use Rattle.text.proofs.NumbersAt.{decimal-number, decimal-wrong, decimal-bound}
 use Rattle.text.proofs.SameTexts.{same-true, stands-beyond}
-use Rattle.permit.specs.CellPermit.{lineEnd}
-use Rattle.permit.specs.Line.{givenNumber}
+use Rattle.cell_permit.specs.CellPermit.{lineEnd}
+use Rattle.cell_permit.specs.Line.{givenNumber}
 use Rattle.permit_file.specs.File.{openOf, openNumber}
 use Rattle.report.specs.LookThrough.{isFirstLine, hwOf, todayOf, daysOf, fileOf, startNumber}
 

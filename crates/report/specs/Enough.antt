@@ -3,7 +3,7 @@ use mathlib.Core.Path.{_≡_}
 use mathlib.Core.List.{List}
 use Prim.Native.Nat.{ℕ, _+_, _≤_}
 use lib.ListN.{length}
-use Rattle.permit.specs.declared.line.Line.{Line}
+use Rattle.cell_permit.specs.declared.Line.{Line}
 use Rattle.permit_file.specs.File.{firstPlace}
 use Rattle.report.specs.LookThrough.{answersFrom, encAnswers, roomFor}
 

@@ -4,16 +4,16 @@ use mathlib.Core.List.{List, [], _∷_, _++_}
 use Prim.Native.Nat.{ℕ, zero, suc, _+_, _*_}
 use lib.Dec.{leb, eqb}
 use lib.ListN.{length, getD, drop, replicate}
-use Rattle.text.specs.Numbers.{bytesOf}
+use Rattle.bytes.specs.Numbers.{bytesOf}
 use Rattle.text.specs.Characters.{isDigit, decimalNumber}
-use Rattle.text.specs.Places.{numberAt}
+use Rattle.bytes.specs.Places.{numberAt}
 use Rattle.text.specs.Texts.{part, allAt, standsAt, numeral}
-use Rattle.permit.specs.Order.{demand}
-use Rattle.permit.specs.Output.{Output, text, refusal}
-use Rattle.permit.specs.CellPermit.{shipWords, lineEnd}
-use Rattle.permit.specs.Line.{readWith, givenNumber, lineNumber}
-use Rattle.permit.specs.declared.line.Line.{Line}
-use Rattle.permit.specs.declared.line.Line.the-variants as line
+use Rattle.forms.specs.Order.{demand}
+use Rattle.forms.specs.Output.{Output, text, refusal}
+use Rattle.cell_permit.specs.CellPermit.{shipWords, lineEnd}
+use Rattle.cell_permit.specs.Line.{readWith, givenNumber, lineNumber}
+use Rattle.cell_permit.specs.declared.Line.{Line}
+use Rattle.cell_permit.specs.declared.Line.the-variants as line
 use Rattle.permit_file.specs.File.{stepBy, firstPlace, openOf, openNumber}
 use Rattle.permit_file.specs.declared.Step.{Step}
 use Rattle.permit_file.specs.declared.Step.the-variants as step

@@ -4,8 +4,8 @@ use mathlib.Core.List.{List, [], _∷_, _++_}
 use Prim.Native.Nat.{ℕ, _+_, _<_}
 use lib.ListN.{length}
 use Rattle.text.specs.Texts.{numeral}
-use Rattle.permit.specs.declared.line.Line.{Line}
-use Rattle.permit.specs.declared.line.Line.the-variants as line
+use Rattle.cell_permit.specs.declared.Line.{Line}
+use Rattle.cell_permit.specs.declared.Line.the-variants as line
 use Rattle.permit_file.specs.declared.Step.{Step}
 use Rattle.permit_file.specs.declared.Step.the-variants as step
 use Rattle.report.specs.LookThrough.{isNoticed, isRefused, countOf, nameShown, rowOf, rowsFrom, recordsWord, currentWord, soonWord, expiredWord, refusedWord}

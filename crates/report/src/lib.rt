@@ -5,10 +5,10 @@ ghost use Prim.Native.Nat.{_≤_};
 ghost use lib.Dec.{eqb};
 ghost use lib.ListN.{length};
 ghost use Rattle.text.specs.Texts.{placed};
-ghost use Rattle.permit.specs.Output.{writtenOf, lentAfter};
+ghost use Rattle.forms.specs.Output.{writtenOf, lentAfter};
 ghost use Rattle.report.specs.LookThrough.{startNumber, report, lineEndsIn, roomFor, reported};
 ghost use Rattle.report.specs.Turns.{oneIf};
-use permit::Written;
+use forms::Written;
 
 mod rows; // rows.rt: a row for each line, and their counts
 mod start; // start.rt: the first line, and why nothing is listed
@@ -57,7 +57,7 @@ fn list_all(input: &[u8], out: &mut [u8]) -> usize
     ensures { λ r. ⌜ (r ≡ length (report (now (input .entry)))) × (now (out .exit) ≡ placed 0 (report (now (input .entry))) (now (out .entry))) ⌝ }
 {
     let mut words = [0u32; 1042];
-    permit::line::ship_words(start::hw_of(input), &mut words);
+    cell_permit::ship_words(start::hw_of(input), &mut words);
     let today = start::today_of(input);
     let days = start::days_of(input);
     let t = rows::list_lines(&input[19..], &words, today, days, out);

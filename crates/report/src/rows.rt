@@ -4,11 +4,11 @@ ghost use mathlib.Core.List.{_∷_, _++_};
 ghost use Prim.Native.Nat.{_+_, _*_, _≤_, _<_};
 ghost use lib.ListN.{length};
 ghost use Rattle.text.specs.Texts.{numeral, placed};
-ghost use Rattle.permit.specs.Line.{lineNumber, readWith};
+ghost use Rattle.cell_permit.specs.Line.{lineNumber, readWith};
 ghost use Rattle.permit_file.specs.File.{stepWith};
 ghost use Rattle.report.specs.LookThrough.{encAnswers, nameShown, rowOf, rowsFrom, isNoticed, isRefused, lineEndsIn};
 ghost use Rattle.report.specs.Turns.{Few, rowEnd, oneIf, counted, movedTo, turned, rowPut, tallyOf};
-use permit::line::Line;
+use cell_permit::Line;
 use permit_file::Cursor;
 use permit_file::Step;
 
@@ -46,7 +46,7 @@ fn name_of(a: Line) -> [u8; 8]
     ensures { λ r. ⌜ r ≡ nameShown a ⌝ }
 {
     match a {
-        Line::Record(r) => text::numbers::bytes64(r.name),
+        Line::Record(r) => bytes::numbers::bytes64(r.name),
         Line::Refused(_) => [45; 8],
     }
 }
@@ -68,7 +68,7 @@ fn put_number(out: &mut [u8], at: usize, a: Line) -> usize
     requires { ⌜ at + length (32 ∷ numeral (lineNumber a)) ≤ length (now out) ⌝ }
     ensures { λ r. ⌜ (r ≡ at + length (32 ∷ numeral (lineNumber a))) × (now (out .exit) ≡ placed at (32 ∷ numeral (lineNumber a)) (now (out .entry))) ⌝ }
 {
-    put_field(out, at, b" ", permit::line::line_number(a) as u64)
+    put_field(out, at, b" ", cell_permit::line_number(a) as u64)
 }
 
 // Puts a line's row; answers the place after it.
@@ -86,7 +86,7 @@ fn is_noticed(number: u32, a: Line) -> bool
     ensures { λ r. ⌜ r ≡ isNoticed number a ⌝ }
 {
     match a {
-        Line::Record(_) => permit::line::line_number(a) == number,
+        Line::Record(_) => cell_permit::line_number(a) == number,
         Line::Refused(_) => false,
     }
 }

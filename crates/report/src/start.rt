@@ -2,8 +2,8 @@
 ghost use mathlib.Core.Path.{_≡_};
 ghost use mathlib.Core.Bool.{true};
 ghost use Rattle.report.specs.LookThrough.{isFirstLine, hwOf, todayOf, daysOf, startNumber};
+use bytes::numbers::Reading;
 use text::characters::Alphabet;
-use text::numbers::Reading;
 
 // Whether the first line has its shape.
 fn is_first_line(input: &[u8]) -> bool
@@ -28,7 +28,7 @@ fn is_first_line(input: &[u8]) -> bool
 pub(crate) fn hw_of(input: &[u8]) -> u64
     ensures { λ r. ⌜ r ≡ hwOf (now (input .entry)) ⌝ }
 {
-    text::numbers::number40(input, 0)
+    bytes::numbers::number40(input, 0)
 }
 
 // Its today; 0, which is no date, where the eight bytes are not all digits.
@@ -62,7 +62,7 @@ pub(crate) fn start_number(input: &[u8]) -> u32
     if !is_first_line(input) {
         return 103;
     }
-    let given = permit::line::given_number(hw_of(input), today_of(input), days_of(input));
+    let given = cell_permit::given_number(hw_of(input), today_of(input), days_of(input));
     if given != 0 {
         return given;
     }

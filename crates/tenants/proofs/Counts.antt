@@ -9,7 +9,7 @@ use native.Mathlib.Omega.{arith}
 use borrow.Author.Tests.{ltb-true}
 use lib.Dec.{ltb}
 use lib.ListN.{length}
-use Rattle.text.proofs.Every.{either}
+use Rattle.bytes.proofs.Every.{either}
 use Rattle.tenants.specs.declared.Held.{Held}
 use Rattle.tenants.specs.Cells.{entered, withdrawn, cellOf}
 use Rattle.tenants.specs.Rules.{isSome}

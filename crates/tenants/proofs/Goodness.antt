@@ -9,7 +9,7 @@ use native.Mathlib.Omega.{arith}
 use borrow.Author.Tests.{leb-true, le-leb, eqb-true, eq-eqb, lt-ltb}
 use lib.Dec.{leb}
 use lib.ListN.{length, getD}
-use Rattle.text.proofs.Every.{and-first, and-second}
+use Rattle.bytes.proofs.Every.{and-first, and-second}
 use Rattle.tenants.specs.declared.Setting.{Setting}
 use Rattle.tenants.specs.Cells.{startsAbove}
 use Rattle.tenants.specs.Together.{

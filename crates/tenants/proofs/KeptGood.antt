@@ -7,8 +7,8 @@ use Prim.Native.Nat.{ℕ, zero, suc, _+_, _≤_, _<_}
 use native.Mathlib.Omega.{arith}
 use lib.ListN.{length, getD, set, length-set}
 use lib.Seq.{getD-set-same, getD-set-other}
-use Rattle.text.proofs.Every.{and-second}
-use Rattle.permit.specs.Identifiers.{isServerId}
+use Rattle.bytes.proofs.Every.{and-second}
+use Rattle.forms.specs.Identifiers.{isServerId}
 use Rattle.tenants.specs.declared.Held.{Held}
 use Rattle.tenants.specs.declared.Setting.{Setting}
 use Rattle.tenants.specs.Cells.{entered, withdrawn}

@@ -8,7 +8,7 @@ use Prim.Native.Nat.{ℕ, _≤_, _<_}
 use native.Mathlib.Omega.{arith}
 use borrow.Author.Tests.{ltb-true, ltb-false, eqb-true, eqb-false, lt-ltb, le-ltb, eq-eqb, ne-eqb}
 use lib.Dec.{ltb, eqb}
-use Rattle.text.proofs.Every.{and-first, and-second, either}
+use Rattle.bytes.proofs.Every.{and-first, and-second, either}
 use Rattle.tenants.specs.declared.Held.{Held}
 use Rattle.tenants.specs.Cells.{entered, withdrawn, cellOf, startsAbove}
 use Rattle.tenants.specs.Together.{isRecord, areRecords}

@@ -7,9 +7,9 @@ use native.Mathlib.Omega.{arith}
 use borrow.Author.Tests.{leb-true, le-leb, lt-leb, ltb-true, lt-ltb}
 use lib.Dec.{leb}
 use Rattle.text.specs.Characters.{isNameCharacter}
-use Rattle.text.proofs.Every.{and-first, and-second, either, same-tests}
-use Rattle.permit.specs.Identifiers.{isCellName, isCellKey}
-use Rattle.permit.proofs.GoodCell.{text-fits}
+use Rattle.bytes.proofs.Every.{and-first, and-second, either, same-tests}
+use Rattle.forms.specs.Identifiers.{isCellName, isCellKey}
+use Rattle.forms.proofs.Fits.{text-fits}
 use Rattle.tenants.specs.declared.Held.{Held}
 use Rattle.tenants.specs.Rules.{isTenant, isDays, isHeld}
 use Rattle.tenants.specs.Together.{inBook, cellIn, BookRecord, names, tenantOf, isRecord}

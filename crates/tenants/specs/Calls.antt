@@ -1,10 +1,10 @@
 -- The calls that a tenant makes, and what each does and answers by the rules.
 use mathlib.Core.List.{List}
 use Prim.Native.Nat.{ℕ}
-use Rattle.permit.specs.Output.{Output}
-use Rattle.permit.specs.Output as output
-use Rattle.permit.specs.Line as of-line
-use Rattle.permit.specs.declared.line.Line.{Line}
+use Rattle.forms.specs.Output.{Output}
+use Rattle.forms.specs.Output as output
+use Rattle.cell_permit.specs.Line as of-line
+use Rattle.cell_permit.specs.declared.Line.{Line}
 use Rattle.tenants.specs.declared.Held.{Held}
 use Rattle.tenants.specs.declared.Asked.{Asked}
 use Rattle.tenants.specs.declared.Asked.the-variants as asked

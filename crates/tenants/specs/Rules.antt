@@ -6,18 +6,18 @@ use Prim.Native.Nat.{ℕ}
 use lib.Dec.{leb, ltb}
 use lib.ListN.{length}
 use Rattle.dates.specs.Calendar.{isDate}
-use Rattle.permit.specs.Order.{demand}
-use Rattle.permit.specs.Identifiers.{isHwId, isCellName, isCellKey}
-use Rattle.permit.specs.Register.{isRegister}
-use Rattle.permit.specs.UserPermit.{readPermit}
-use Rattle.permit.specs.CellPermit.{shipWords, lineOf, lineEnd}
-use Rattle.permit.specs.Line.{readWith}
-use Rattle.permit.specs.Output.{Output, text, refusal}
-use Rattle.permit.specs.declared.line.Cell.{Cell}
-use Rattle.permit.specs.declared.line.Line.{Line}
-use Rattle.permit.specs.declared.line.Line.the-variants as of-line
-use Rattle.permit.specs.declared.user_permit.UserPermit.{UserPermit}
-use Rattle.permit.specs.declared.user_permit.UserPermit.the-variants as user-permit
+use Rattle.forms.specs.Order.{demand}
+use Rattle.forms.specs.Identifiers.{isHwId, isCellName, isCellKey}
+use Rattle.user_permit.specs.Register.{isRegister}
+use Rattle.user_permit.specs.UserPermit.{readPermit}
+use Rattle.cell_permit.specs.CellPermit.{shipWords, lineOf, lineEnd}
+use Rattle.cell_permit.specs.Line.{readWith}
+use Rattle.forms.specs.Output.{Output, text, refusal}
+use Rattle.cell_permit.specs.declared.Cell.{Cell}
+use Rattle.cell_permit.specs.declared.Line.{Line}
+use Rattle.cell_permit.specs.declared.Line.the-variants as of-line
+use Rattle.user_permit.specs.declared.UserPermit.{UserPermit}
+use Rattle.user_permit.specs.declared.UserPermit.the-variants as user-permit
 use Rattle.tenants.specs.declared.Held.{Held}
 use Rattle.tenants.specs.declared.Setting.{Setting}
 use Rattle.tenants.specs.declared.Asked.{Asked}

@@ -4,7 +4,7 @@ use mathlib.Core.List.{List, [], _∷_}
 use Prim.Native.Nat.{ℕ, suc, _+_, _*_, _/_, _%_}
 use lib.Dec.{leb, eqb}
 use lib.ListN.{length, getD, set}
-use Rattle.permit.specs.Identifiers.{isServerId}
+use Rattle.forms.specs.Identifiers.{isServerId}
 use Rattle.tenants.specs.declared.Held.{Held}
 use Rattle.tenants.specs.declared.Setting.{Setting}
 use Rattle.tenants.specs.Cells.{entered, withdrawn, startsAbove}

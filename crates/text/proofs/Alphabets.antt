@@ -8,10 +8,10 @@ use native.Mathlib.Nat.{mod-eq-of-lt}
 use borrow.Author.Tests.{ltb-true}
 use lib.Dec.{ltb}
 use lib.ListN.{length, length-map}
-use Rattle.text.specs.Numbers.{digits, value, Below}
-use Rattle.text.specs.Characters.{allOf}
-use Rattle.text.proofs.Digits.{digits-length, digits-below, value-digits, value-below, digits-value}
-use Rattle.text.proofs.Every.{all-first, all-rest, all-more, all-weaken}
+use Rattle.bytes.specs.Numbers.{digits, value, Below}
+use Rattle.bytes.specs.Every.{allOf}
+use Rattle.bytes.proofs.Digits.{digits-length, digits-below, value-digits, value-below, digits-value}
+use Rattle.bytes.proofs.Every.{all-first, all-rest, all-more, all-weaken}
 
 -- characters for the values below b; more characters may be read than are written
 pub record Alphabet (b : ℕ) (character valueOf : ℕ → ℕ) (read written : ℕ → Bool) : Type 0 where

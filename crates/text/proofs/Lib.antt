@@ -1,13 +1,7 @@
-pub mod Xor
-pub mod Tables
-pub mod Digits
-pub mod Every
 pub mod Alphabets
 pub mod Notations
 pub mod NameTexts
-pub mod Pads
 pub mod Inverses
-pub mod Places
 pub mod PlacedTexts
 pub mod LowDigits
 pub mod Numerals
@@ -15,4 +9,3 @@ pub mod TextsAt
 pub mod AtOnce
 pub mod SameTexts
 pub mod NumbersAt
-pub mod NoChoices

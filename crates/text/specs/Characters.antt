@@ -1,9 +1,9 @@
 -- The alphabets of the rules, what a hex character and a digit stand for, and numbers as text.
-use mathlib.Core.Bool.{Bool, true, cond, _&&_, _||_}
-use mathlib.Core.List.{List, [], _∷_, map}
+use mathlib.Core.Bool.{Bool, cond, _&&_, _||_}
+use mathlib.Core.List.{List, map}
 use Prim.Native.Nat.{ℕ, _+_, _-_}
 use lib.Dec.{leb, ltb}
-use Rattle.text.specs.Numbers.{digits, value}
+use Rattle.bytes.specs.Numbers.{digits, value}
 use Rattle.text.specs.declared.characters.Alphabet.{Alphabet}
 use Rattle.text.specs.declared.characters.Alphabet.the-variants.{Digit, Hex, Name, Printable}
 
@@ -53,11 +53,6 @@ digitValue c = cond (isDigit c) (c - 48) 10
 -- the digit of a value below 10
 unfoldable pub digitCharacter : ℕ → ℕ
 digitCharacter v = 48 + v
-
--- each byte passes the test
-unfoldable pub allOf : (ℕ → Bool) → List ℕ → Bool
-allOf test [] = true
-allOf test (c ∷ s) = test c && allOf test s
 
 -- x in n hex characters
 abbrev pub hexText : ℕ → ℕ → List ℕ

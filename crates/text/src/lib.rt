@@ -1,7 +1,5 @@
-// Bytes and numbers.
+// Texts: their characters, and texts at places.
 pub mod characters; // characters.rt: hex characters, digits, and the alphabets
 pub mod names; // names.rt: the characters of a name, eight at once
-pub mod numbers; // numbers.rt: big-endian numbers in bytes
-pub mod padding; // padding.rt: a number of four or five bytes filled up to a block
 pub mod reading; // reading.rt: bytes and texts at places of a slice, and the numbers that they are
 pub mod writing; // writing.rt: texts put at a place of a slice

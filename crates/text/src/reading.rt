@@ -5,7 +5,7 @@ ghost use lib.ListN.{getD};
 ghost use Rattle.text.specs.Characters.{testOf};
 ghost use Rattle.text.specs.Texts.{allAt, standsAt, hexAt, decimalAt};
 use super::characters::Alphabet;
-use super::numbers::Reading;
+use bytes::numbers::Reading;
 
 // The byte at a place; 0 beyond the end.
 pub fn byte_at(s: &[u8], at: usize) -> u8
@@ -18,7 +18,7 @@ pub fn byte_at(s: &[u8], at: usize) -> u8
 pub fn all_of(alphabet: Alphabet, s: &[u8], at: usize, n: usize) -> bool
     ensures { λ r. ⌜ r ≡ allAt (testOf alphabet) n (now (s .entry)) at ⌝ }
 {
-    if !super::numbers::lies_within(s, at, n) {
+    if !bytes::numbers::lies_within(s, at, n) {
         return false;
     }
     let mut i: usize = 0;
@@ -36,7 +36,7 @@ pub fn stands_at(text: &[u8], s: &[u8], at: usize) -> bool
     ensures { λ r. ⌜ r ≡ standsAt (now (text .entry)) (now (s .entry)) at ⌝ }
 {
     let n = text.len();
-    if !super::numbers::lies_within(s, at, n) {
+    if !bytes::numbers::lies_within(s, at, n) {
         return n == 0;
     }
     let mut i: usize = 0;
@@ -56,7 +56,7 @@ pub fn hex_at(s: &[u8], at: usize, n: usize) -> Reading
     if 16 < n {
         return Reading::Wrong;
     }
-    if !super::numbers::lies_within(s, at, n) {
+    if !bytes::numbers::lies_within(s, at, n) {
         return Reading::Wrong;
     }
     let mut x: u64 = 0;
@@ -79,7 +79,7 @@ pub fn decimal_at(s: &[u8], at: usize, n: usize) -> Reading
     if 19 < n {
         return Reading::Wrong;
     }
-    if !super::numbers::lies_within(s, at, n) {
+    if !bytes::numbers::lies_within(s, at, n) {
         return Reading::Wrong;
     }
     let mut x: u64 = 0;

@@ -8,7 +8,7 @@ pub fn put_text(out: &mut [u8], at: usize, text: &[u8])
     ensures { λ _. ⌜ now (out .exit) ≡ placed at (now (text .entry)) (now (out .entry)) ⌝ }
 {
     let n = text.len();
-    if super::numbers::lies_within(out, at, n) {
+    if bytes::numbers::lies_within(out, at, n) {
         let mut i: usize = 0;
         while i < n {
             out[at + i] = text[i];
@@ -21,7 +21,7 @@ pub fn put_text(out: &mut [u8], at: usize, text: &[u8])
 pub fn put_hex(out: &mut [u8], at: usize, n: usize, x: u64)
     ensures { λ _. ⌜ now (out .exit) ≡ placed at (hexText n x) (now (out .entry)) ⌝ }
 {
-    if super::numbers::lies_within(out, at, n) {
+    if bytes::numbers::lies_within(out, at, n) {
         let mut rest = x;
         let mut i = n;
         while 0 < i {
@@ -36,7 +36,7 @@ pub fn put_hex(out: &mut [u8], at: usize, n: usize, x: u64)
 pub fn put_decimal(out: &mut [u8], at: usize, n: usize, x: u64)
     ensures { λ _. ⌜ now (out .exit) ≡ placed at (decimalText n x) (now (out .entry)) ⌝ }
 {
-    if super::numbers::lies_within(out, at, n) {
+    if bytes::numbers::lies_within(out, at, n) {
         let mut rest = x;
         let mut i = n;
         while 0 < i {

@@ -132,7 +132,7 @@ fn end_line() {
 // Key, clear block and enciphered block; the clear one is what deciphering gives back.
 fn pair(key: u64, clear: u64) {
     let mut words = [0u32; 1042];
-    blowfish::key_schedule(&text::numbers::bytes64(key), &mut words);
+    blowfish::key_schedule(&bytes::numbers::bytes64(key), &mut words);
     let enciphered = blowfish::encipher(&words, clear);
     show(key, 0);
     blank();

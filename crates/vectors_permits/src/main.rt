@@ -1,10 +1,10 @@
 // Runs the worked permits of S-63 (sections 10.6, 11.4 and 11.5): HW_ID 12348, M_KEY 98765, M_ID 01. `stdout` has what they must give.
+use cell_permit::Cell;
+use cell_permit::Line;
+use cell_permit::Record;
+use forms::Written;
 use libc::STDOUT_FILENO;
-use permit::Written;
-use permit::line::Cell;
-use permit::line::Line;
-use permit::line::Record;
-use permit::user_permit::UserPermit;
+use user_permit::UserPermit;
 
 fn print(text: &[u8]) {
     io::write_all(STDOUT_FILENO, text);
@@ -31,8 +31,8 @@ fn show_key(word: &[u8], key: u64) {
 fn show_user_permit(answer: UserPermit) {
     match answer {
         UserPermit::Ship { hw_id, m_id } => {
-            let hw = text::numbers::bytes40(hw_id);
-            let m = text::numbers::bytes16((m_id % 65536) as u16);
+            let hw = bytes::numbers::bytes40(hw_id);
+            let m = bytes::numbers::bytes16((m_id % 65536) as u16);
             show(b"HW_ID ", &hw);
             show(b"M_ID ", &m);
         }
@@ -41,8 +41,8 @@ fn show_user_permit(answer: UserPermit) {
 }
 
 fn show_record(r: Record) {
-    let name = text::numbers::bytes64(r.name);
-    let server = text::numbers::bytes16((r.server % 65536) as u16);
+    let name = bytes::numbers::bytes64(r.name);
+    let server = bytes::numbers::bytes16((r.server % 65536) as u16);
     let notice = r.notice;
     show(b"cell name ", &name);
     show_number(b"expiry ", r.expiry);
@@ -75,15 +75,15 @@ fn show_written(written: Written, out: &[u8]) {
     }
     let line = &out[..end];
     show(b"line ", line);
-    show_line(permit::line::read_line(0x3132333438, 20000731, 30, line));
-    show_line(permit::line::read_line(0x3132333439, 20000731, 30, line));
+    show_line(cell_permit::read_line(0x3132333438, 20000731, 30, line));
+    show_line(cell_permit::read_line(0x3132333439, 20000731, 30, line));
 }
 
 fn user_permit() {
     let mut permit = [0u8; 28];
-    permit::user_permit::make_user_permit(b"0198765", 0x3132333438, 0x3031, &mut permit);
+    user_permit::make_user_permit(b"0198765", 0x3132333438, 0x3031, &mut permit);
     show(b"user permit ", &permit);
-    show_user_permit(permit::user_permit::read_user_permit(b"0198765", &permit));
+    show_user_permit(user_permit::read_user_permit(b"0198765", &permit));
 }
 
 fn cell_permit() {
@@ -97,7 +97,7 @@ fn cell_permit() {
         server: 0x4742,
     };
     let mut out = [0u8; 76];
-    let written = permit::writing_line::write_line(0x3132333438, cell, &mut out);
+    let written = writing_line::write_line(0x3132333438, cell, &mut out);
     show_written(written, &out);
 }
 

@@ -8,7 +8,7 @@ use native.Mathlib.Omega.{arith}
 use borrow.Author.Needs.{needs}
 use borrow.Author.Tests.{not-true, not-false}
 use lib.ListN.{getD}
-use Rattle.text.specs.Places.{numberAt}
+use Rattle.bytes.specs.Places.{numberAt}
 use Rattle.text.specs.Texts.{part}
 use Rattle.layout.specs.Layout.{recordSize, recordPlace}
 use Rattle.layout.specs.Judging.{recordPart, recordTest}

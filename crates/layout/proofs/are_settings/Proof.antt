@@ -6,7 +6,7 @@ use Prim.Native.Nat.{ℕ, _+_, _-_}
 use native.Mathlib.Omega.{arith}
 use borrow.Author.Needs.{needs}
 use borrow.Author.Tests.{not-true, not-false}
-use Rattle.text.specs.Places.{numberAt}
+use Rattle.bytes.specs.Places.{numberAt}
 use Rattle.text.specs.Texts.{part}
 use Rattle.layout.specs.Layout.{settingSize, settingPlace}
 use Rattle.layout.specs.Judging.{settingPart, settingTest}

@@ -5,10 +5,10 @@ use Prim.Native.Nat.{ℕ, _-_}
 use native.Mathlib.Omega.{arith}
 use borrow.Author.Needs.{needs}
 use borrow.Author.Tests.{not-true, not-false}
-use Rattle.text.specs.Numbers.{Below}
+use Rattle.bytes.specs.Numbers.{Below}
 use lib.ListN.{length, drop, length-drop}
 use lib.Seq.{take-all}
-use Rattle.text.specs.Characters.{allOf}
+use Rattle.bytes.specs.Every.{allOf}
 use Rattle.layout.specs.Layout.{usedLength, recordCount}
 use Rattle.layout.specs.Judging.{isZero, recordsTest}
 use Rattle.layout.proofs.Judged.{test-fails, fact-fails, last-decides}

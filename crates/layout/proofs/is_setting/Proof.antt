@@ -3,8 +3,8 @@
 use mathlib.Core.Path.{_≡_, sym, ap, _∙_}
 use borrow.Author.Needs.{needs}
 use borrow.Author.Tests.{not-true, not-false}
-use Rattle.text.specs.Places.{numberAt}
-use Rattle.permit.specs.Identifiers.{isServerId}
+use Rattle.bytes.specs.Places.{numberAt}
+use Rattle.forms.specs.Identifiers.{isServerId}
 use Rattle.layout.proofs.SettingTests.{days-below, days-beyond, no-server, by-last-byte}
 use Rattle.layout.proofs.is_setting.Statement.{statement}
 use Rattle.layout.proofs.is_setting.Tie as tie

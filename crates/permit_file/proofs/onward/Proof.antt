@@ -1,7 +1,7 @@
 -- `permit_file::onward` meets its contract.
 -- Assumes nothing.
 use mathlib.Core.Path.{ap, sym}
-use Rattle.permit.specs.declared.line.Line.{Line}
+use Rattle.cell_permit.specs.declared.Line.{Line}
 use Rattle.permit_file.specs.File.{onward}
 use borrow.Author.Needs.{needs}
 use Rattle.permit_file.proofs.onward.Statement.{statement}

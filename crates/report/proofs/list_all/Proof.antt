@@ -8,9 +8,9 @@ use borrow.Author.Needs.{needs}
 use lib.ListN.{length, take, drop, length-drop}
 use lib.Seq.{take-all}
 use Rattle.text.specs.Texts.{placed}
-use Rattle.permit.specs.CellPermit.{shipWords}
-use Rattle.permit.specs.Line.{readWith}
-use Rattle.permit.specs.declared.line.Line.{Line}
+use Rattle.cell_permit.specs.CellPermit.{shipWords}
+use Rattle.cell_permit.specs.Line.{readWith}
+use Rattle.cell_permit.specs.declared.Line.{Line}
 use Rattle.report.specs.LookThrough.{fileOf, encAnswers, answersOf, rowsFrom, lineEndsIn}
 use Rattle.report.specs.Turns.{tallyOf}
 use Rattle.report.proofs.Starts.{first-within}

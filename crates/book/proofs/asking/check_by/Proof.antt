@@ -2,7 +2,7 @@
 -- Assumes nothing.
 use mathlib.Core.Path.{sym, ap, _∙_}
 use borrow.Author.Needs.{needs}
-use Rattle.permit.specs.Line.{readLine}
+use Rattle.cell_permit.specs.Line.{readLine}
 use Rattle.tenants.specs.declared.Setting.{Setting}
 use Rattle.tenants.proofs.Ranges.{tenant-is, tenant-not}
 use Rattle.book.proofs.AnswerRules.{checking-outside, checking-line}

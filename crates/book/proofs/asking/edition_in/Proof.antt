@@ -6,7 +6,7 @@ use mathlib.Core.List.{List}
 use Prim.Native.Nat.{ℕ, _<_}
 use borrow.Author.Needs.{needs}
 use borrow.Author.Tests.{not-true, not-false}
-use Rattle.permit.specs.Identifiers.{isCellName}
+use Rattle.forms.specs.Identifiers.{isCellName}
 use Rattle.tenants.specs.declared.Held.{Held}
 use Rattle.tenants.specs.declared.Asked.the-variants.{Edition}
 use Rattle.tenants.specs.Rules.{isTenant}

@@ -4,7 +4,7 @@ use mathlib.Core.Path.{_≡_, sym, _∙_}
 use mathlib.Core.Bool.{true}
 use borrow.Author.Needs.{needs}
 use borrow.Author.Tests.{not-true, not-false}
-use Rattle.permit.proofs.Outputs.{refused}
+use Rattle.forms.proofs.Outputs.{refused}
 use Rattle.layout.specs.Layout.{isBook}
 use Rattle.book.proofs.AnswerRules.{answered-same, issued-damaged, issued-ruled}
 use Rattle.book.proofs.asking.issue.Statement.{statement}

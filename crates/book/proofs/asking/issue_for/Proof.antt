@@ -5,8 +5,8 @@ use mathlib.Core.List.{List}
 use Prim.Native.Nat.{ℕ, _<_}
 use borrow.Author.Needs.{needs}
 use lib.ListN.{length}
-use Rattle.permit.specs.CellPermit.{writtenLine}
-use Rattle.permit.proofs.Outputs.{refused}
+use Rattle.cell_permit.specs.CellPermit.{writtenLine}
+use Rattle.forms.proofs.Outputs.{refused}
 use Rattle.tenants.specs.declared.Held.{Held}
 use Rattle.tenants.specs.declared.Setting.{Setting}
 use Rattle.tenants.specs.Rules.{lineCell}

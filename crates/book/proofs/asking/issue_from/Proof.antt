@@ -6,12 +6,12 @@ use borrow.Author.Needs.{needs}
 use borrow.Author.Tests.{not-true, not-false, leb-true, le-leb, lt-leb}
 use lib.Dec.{leb}
 use lib.ListN.{length}
-use Rattle.text.proofs.Every.{and-first, and-second}
+use Rattle.bytes.proofs.Every.{and-first, and-second}
 use Rattle.dates.specs.Calendar.{isDate}
-use Rattle.permit.specs.Identifiers.{isCellName}
-use Rattle.permit.specs.Register.{isRegister}
-use Rattle.permit.specs.declared.user_permit.UserPermit.{UserPermit}
-use Rattle.permit.proofs.Outputs.{refused}
+use Rattle.forms.specs.Identifiers.{isCellName}
+use Rattle.user_permit.specs.Register.{isRegister}
+use Rattle.user_permit.specs.declared.UserPermit.{UserPermit}
+use Rattle.forms.proofs.Outputs.{refused}
 use Rattle.tenants.specs.Cells.{cellOf}
 use Rattle.tenants.proofs.Ranges.{tenant-is, tenant-not}
 use Rattle.book.specs.Issuing.{lineWritten}

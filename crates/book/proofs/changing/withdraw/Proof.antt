@@ -7,7 +7,7 @@ use Prim.Native.Nat.{ℕ, _≤_, _<_}
 use native.Mathlib.Omega.{arith}
 use borrow.Author.Needs.{needs}
 use borrow.Author.Tests.{not-true, not-false}
-use Rattle.permit.specs.Identifiers.{isCellName}
+use Rattle.forms.specs.Identifiers.{isCellName}
 use Rattle.tenants.specs.Together.{fullName}
 use Rattle.tenants.proofs.Ranges.{tenant-is, tenant-not}
 use Rattle.layout.specs.Layout.{recordCount, bookOf, isBook}

@@ -7,8 +7,8 @@ use native.Mathlib.Omega.{arith}
 use borrow.Author.Needs.{needs}
 use lib.Dec.{ltb}
 use lib.ListN.{getD}
-use Rattle.text.specs.Places.{numberAt}
-use Rattle.text.proofs.Places.{number-at-below}
+use Rattle.bytes.specs.Places.{numberAt}
+use Rattle.bytes.proofs.Places.{number-at-below}
 use Rattle.tenants.specs.Together.{names, fullName}
 use Rattle.book.proofs.RecordParts.{name-parts, other-before, own-before}
 use Rattle.book.proofs.finding.comes_before.Statement.{statement}

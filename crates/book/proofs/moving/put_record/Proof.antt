@@ -6,9 +6,9 @@ use Prim.Native.Nat.{ℕ, _+_}
 use native.Mathlib.Omega.{arith}
 use borrow.Author.Needs.{needs}
 use lib.ListN.{length-append}
-use Rattle.text.specs.Numbers.{bytesOf}
+use Rattle.bytes.specs.Numbers.{bytesOf}
 use Rattle.text.specs.Texts.{placed}
-use Rattle.text.proofs.Digits.{digits-length}
+use Rattle.bytes.proofs.Digits.{digits-length}
 use Rattle.tenants.specs.declared.Held.{Held}
 use Rattle.tenants.specs.Together.{fullName}
 use Rattle.layout.specs.Layout.{zeros, recordBytes}

@@ -6,7 +6,7 @@ use Prim.Native.Nat.{ℕ, _+_, _*_, _/_, _%_, _<_}
 use native.Mathlib.Omega.{arith}
 use lib.Dec.{T, eqb, eqb→eq}
 use lib.ListN.{length, getD}
-use Rattle.text.proofs.Tables.{each, at-each}
+use Rattle.bytes.proofs.Tables.{each, at-each}
 use Rattle.crc32.specs.Crc32.{shift, shifts}
 use Rattle.crc32.specs.Table.{digitOut, IsTable}
 use Rattle.crc32.proofs.table.table.Statement.{statement}

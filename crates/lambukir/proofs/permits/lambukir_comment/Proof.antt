@@ -1,7 +1,7 @@
 -- `lambukir::permits::lambukir_comment` meets its contract.
 use mathlib.Core.Path.{ap, sym, _∙_}
 use lib.ListN.{length}
-use Rattle.permit.proofs.Comments.{place-within}
+use Rattle.cell_permit.proofs.Comments.{place-within}
 use Rattle.lambukir.specs.Permits.{partFrom}
 use borrow.Author.Needs.{needs}
 use Rattle.lambukir.proofs.permits.lambukir_comment.Statement.{statement}

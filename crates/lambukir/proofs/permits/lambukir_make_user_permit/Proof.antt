@@ -1,6 +1,6 @@
 -- `lambukir::permits::lambukir_make_user_permit` meets its contract.
 use mathlib.Core.Path.{ap, _∙_}
-use Rattle.permit.specs.Output.{writtenNumber}
+use Rattle.forms.specs.Output.{writtenNumber}
 use Rattle.lambukir.specs.declared.permits.TextWritten.{TextWritten}
 use borrow.Author.Needs.{needs}
 use Rattle.lambukir.proofs.permits.lambukir_make_user_permit.Statement.{statement}

@@ -5,8 +5,8 @@ use Prim.Native.Nat.{_+_, _≤_, _<_}
 use native.Mathlib.Omega.{arith}
 use borrow.Author.Tests.{le-leb, lt-leb, lt-ltb, le-ltb}
 use lib.ListN.{length}
-use Rattle.permit.specs.Line.{readWith}
-use Rattle.permit.specs.declared.line.Line.{Line}
+use Rattle.cell_permit.specs.Line.{readWith}
+use Rattle.cell_permit.specs.declared.Line.{Line}
 use Rattle.permit_file.specs.File.{cursor, lineEnds, onward}
 use Rattle.permit_file.proofs.Lines.{begins-first, ends-within, next-within}
 use Rattle.permit_file.proofs.Steps.{beyond, at-end, unended, line-read}

@@ -5,7 +5,7 @@ use mathlib.Core.Bool.{true}
 use mathlib.Core.List.{List}
 use Prim.Native.Nat.{ℕ}
 use borrow.Author.Tests.{not-true, not-false, eq-eqb, ne-eqb}
-use Rattle.permit.proofs.DateTexts.{date-right, date-wrong}
+use Rattle.forms.proofs.DateTexts.{date-right, date-wrong}
 use Rattle.permit_file.specs.File.{isHeader}
 use Rattle.permit_file.proofs.Headers.{toStart, toDate, toBlank, toHour, toColon, toMinute}
 use borrow.Author.Needs.{needs}

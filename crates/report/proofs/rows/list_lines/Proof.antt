@@ -6,8 +6,8 @@ use Prim.Native.Nat.{ℕ, _-_, _≤_}
 use native.Mathlib.Omega.{arith}
 use lib.ListN.{length}
 use Rattle.text.proofs.PlacedTexts.{length-placed}
-use Rattle.permit.specs.Line.{readWith}
-use Rattle.permit.specs.declared.line.Line.{Line}
+use Rattle.cell_permit.specs.Line.{readWith}
+use Rattle.cell_permit.specs.declared.Line.{Line}
 use Rattle.permit_file.specs.File.{stepBy}
 use Rattle.report.specs.LookThrough.{rowsFrom, countOf}
 use Rattle.report.specs.Turns.{tallyOf}

@@ -4,8 +4,8 @@ use mathlib.Core.List.{List, _∷_, _++_}
 use Prim.Native.Nat.{ℕ}
 use borrow.Author.Needs.{needs}
 use Rattle.text.specs.Texts.{numeral}
-use Rattle.permit.specs.Line.{lineNumber}
-use Rattle.permit.specs.declared.line.Line.{Line}
+use Rattle.cell_permit.specs.Line.{lineNumber}
+use Rattle.cell_permit.specs.declared.Line.{Line}
 use Rattle.report.specs.LookThrough.{rowOf}
 use Rattle.report.specs.Turns.{rowEnd}
 use Rattle.report.proofs.Putting.{first-fits, second-fits, third-fits, three-put}

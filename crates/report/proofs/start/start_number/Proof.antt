@@ -9,7 +9,7 @@ use borrow.Author.Tests.{not-true, not-false}
 use borrow.Author.Needs.{needs}
 use lib.ListN.{length, drop, length-drop}
 use lib.Seq.{take-all}
-use Rattle.permit.specs.Line.{givenNumber}
+use Rattle.cell_permit.specs.Line.{givenNumber}
 use Rattle.permit_file.specs.File.{openOf, openNumber}
 use Rattle.report.specs.LookThrough.{isFirstLine, hwOf, todayOf, daysOf}
 use Rattle.report.proofs.Starts.{too-long, wrong-shape, first-within, wrong-given, by-opening}

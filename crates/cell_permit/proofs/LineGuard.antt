@@ -1,0 +1,109 @@
+-- An accepted line with one of its permit's characters changed is refused: the check part is the enciphered CRC-32 of the first 48 characters,
+-- and each step from these to the check part is one-to-one. Assumes nothing.
+use mathlib.Core.Path.{_≡_, refl, sym, ap, _∙_}
+use mathlib.Core.Bool.{Bool, true, false}
+use mathlib.Core.List.{List}
+use Prim.Native.Nat.{ℕ, _-_, _^_, _≤_, _<_}
+use native.Mathlib.Omega.{arith}
+use borrow.Author.Tests.{ltb-true, ltb-false, eqb-true}
+use lib.Dec.{ltb, eqb}
+use lib.ListN.{length, getD}
+use Rattle.bytes.specs.Numbers.{Below}
+use Rattle.text.specs.Characters.{isHex, hexNumber}
+use Rattle.bytes.specs.Every.{allOf}
+use Rattle.text.specs.Texts.{part}
+use Rattle.bytes.proofs.Digits.{take-below}
+use Rattle.bytes.proofs.Every.{either}
+use Rattle.text.proofs.Alphabets.{text-injective}
+use Rattle.text.proofs.Notations.{hex}
+use Rattle.text.proofs.TextsAt.{all-within, all-there}
+use Rattle.crc32.specs.OneChange.{DifferAt}
+use Rattle.crc32.proofs.OneChange.{one-change}
+use Rattle.forms.specs.Order.{demand}
+use Rattle.cell_permit.specs.CellPermit.{shipWords, checkOf}
+use Rattle.cell_permit.specs.Line.{isLine, partsOf, keyUnder, recordOf, checked, readWith, givenNumber, readLine}
+use Rattle.cell_permit.specs.OneCharacter.{isAccepted, LineGuarded}
+use Rattle.cell_permit.specs.declared.Line.{Line}
+use Rattle.cell_permit.specs.declared.Line.the-variants.{Refused}
+use Rattle.cell_permit.proofs.GoodLine.{good-line}
+use Rattle.forms.proofs.OnePlace.{part-before, part-after, part-differs}
+use Rattle.cell_permit.proofs.ShipCipher.{ship-words, same-crc}
+
+module _ (n : ℕ) where
+  -- what is accepted passed each test, and what fails a test is refused
+  passed : (test : Bool) (next : Line) → isAccepted (demand test (Refused n) next) ≡ true → test ≡ true
+  passed true next e = refl
+  passed false next e = e
+
+  after : (test : Bool) (next : Line) → isAccepted (demand test (Refused n) next) ≡ true → isAccepted next ≡ true
+  after true next e = e
+  after false next e = cc
+
+  refused-after : (test : Bool) (next : Line) → (test ≡ true → isAccepted next ≡ false) → isAccepted (demand test (Refused n) next) ≡ false
+  refused-after true next e = e refl
+  refused-after false next e = refl
+
+-- the check part is 16 hex characters within the line
+module _ (s : List ℕ) (line : isLine s ≡ true) where
+  check-within : 64 ≤ length s
+  check-within = all-within isHex 16 s 48 (good-line s line .check)
+
+  check-hex : allOf isHex (part 16 s 48) ≡ true
+  check-hex = all-there isHex 16 s 48 (good-line s line .check)
+
+-- the check part is right for the first 48 characters
+abbrev Right : List ℕ → List ℕ → Type 0
+Right words s = hexNumber (part 16 s 48) ≡ checkOf words (part 48 s 0)
+
+module _ (words : List ℕ) (good : Below (2 ^ 32) words) (i : ℕ) (s t : List ℕ) (bs : Below 256 s) (bt : Below 256 t) (small : i < 64)
+    (d : DifferAt i s t) (s-line : isLine s ≡ true) (t-line : isLine t ≡ true) (s-right : Right words s) (t-right : Right words t) where
+  in-first : i < 48 → ⊥
+  in-first h =
+      one-change (part 48 s 0) (part 48 t 0) (i - 0) (take-below 48 s bs) (take-below 48 t bt)
+      (part-differs d 48 0 (omega (arith, check-within s s-line)) (omega arith) h)
+      (same-crc words good (part 48 s 0) (part 48 t 0)
+      (sym s-right ∙ ap hexNumber (part-after d 16 48 (check-within s s-line) h) ∙ t-right))
+
+  in-check : 48 ≤ i → ⊥
+  in-check h =
+      let differ = part-differs d 16 48 (check-within s s-line) h small in
+      differ .there
+      (ap (λ (l : List ℕ). getD l (i - 48) 0)
+      (text-injective hex (part 16 s 48) (part 16 t 48) (check-hex s s-line) (check-hex t t-line)
+      (differ .one-length)
+      (s-right ∙ ap (checkOf words) (part-before d 48 0 (omega (arith, check-within s s-line)) h) ∙ sym t-right)))
+
+  not-both : ⊥
+  not-both = either (ltb i 48) (λ h. in-first (ltb-true i 48 h)) (λ h. in-check (ltb-false i 48 h))
+
+pub line-guarded : LineGuarded
+unfolding readLine readWith checked partsOf
+line-guarded hw today days i s t bs bt small d accepted =
+    refused-after g (eqb g 0) (readWith words today days t)
+    (λ _. refused-after 12 (isLine t) (checked words today days t (partsOf t))
+    (λ t-line. refused-after 13 (right t) (recordFor t)
+    (λ t-right. absurd
+    (not-both words (ship-words hw) i s t bs bt small d s-line t-line
+    (eqb-true _ _ (passed 13 (right s) (recordFor s) with-line))
+    (eqb-true _ _ t-right)))))
+  where
+    words : List ℕ
+    words = shipWords hw
+
+    g : ℕ
+    g = givenNumber hw today days
+
+    right : List ℕ → Bool
+    right l = eqb (hexNumber (part 16 l 48)) (checkOf words (part 48 l 0))
+
+    recordFor : List ℕ → Line
+    recordFor l = recordOf today days (partsOf l) (keyUnder words (partsOf l .block1)) (keyUnder words (partsOf l .block2))
+
+    with-given : isAccepted (readWith words today days s) ≡ true
+    with-given = after g (eqb g 0) (readWith words today days s) accepted
+
+    s-line : isLine s ≡ true
+    s-line = passed 12 (isLine s) (checked words today days s (partsOf s)) with-given
+
+    with-line : isAccepted (checked words today days s (partsOf s)) ≡ true
+    with-line = after 12 (isLine s) (checked words today days s (partsOf s)) with-given

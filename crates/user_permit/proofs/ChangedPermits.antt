@@ -1,0 +1,86 @@
+-- An accepted user permit with one of its first 24 characters changed is refused. Assumes nothing.
+use mathlib.Core.Path.{_≡_, refl, sym, ap, _∙_}
+use mathlib.Core.Bool.{Bool, true, false}
+use mathlib.Core.List.{List}
+use Prim.Native.Nat.{ℕ, _+_, _-_, _≤_, _<_}
+use native.Mathlib.Omega.{arith}
+use borrow.Author.Tests.{eqb-true, ltb-true, ltb-false}
+use lib.Dec.{ltb}
+use lib.ListN.{length, drop, getD}
+use Rattle.bytes.specs.Numbers.{Below}
+use Rattle.text.specs.Characters.{isHex, hexNumber}
+use Rattle.text.specs.Texts.{part, allAt}
+use Rattle.text.proofs.Alphabets.{text-injective}
+use Rattle.bytes.proofs.Digits.{take-below, drop-below}
+use Rattle.bytes.proofs.Every.{either}
+use Rattle.text.proofs.Notations.{hex}
+use Rattle.text.proofs.TextsAt.{all-there}
+use Rattle.crc32.specs.Crc32.{crc32Of}
+use Rattle.crc32.specs.OneChange.{DifferAt}
+use Rattle.crc32.proofs.OneChange.{one-change}
+use Rattle.forms.specs.Order.{demand}
+use Rattle.user_permit.specs.Register.{isRegister}
+use Rattle.user_permit.specs.UserPermit.{isPermitText, isCrcRight, readPermit}
+use Rattle.user_permit.specs.OneCharacter.{isShip, UserPermitGuarded}
+use Rattle.user_permit.specs.declared.UserPermit.{UserPermit}
+use Rattle.user_permit.specs.declared.UserPermit.the-variants.{Refused}
+use Rattle.forms.proofs.OnePlace.{part-before, part-after, part-differs}
+use Rattle.user_permit.proofs.UserPermits.{text-size, text-hex, second-hex}
+
+-- what was demanded of a ship holds, and what follows is that ship
+demanded : (test : Bool) (n : ℕ) (next : UserPermit) → isShip (demand test (Refused n) next) ≡ true → (test ≡ true) × (isShip next ≡ true)
+demanded true n next e = (refl, e)
+demanded false n next e = (e, cc)
+
+-- what is known of an accepted permit
+record Accepted (s : List ℕ) : Type 0 where
+  size : length s ≡ 28
+  hex-text : allAt isHex 28 s 0 ≡ true
+  crc : hexNumber (part 8 s 16) ≡ crc32Of (part 16 s 0)
+
+accepted : (register s : List ℕ) → isShip (readPermit register s) ≡ true → Accepted s
+unfolding readPermit isCrcRight
+accepted register s ship =
+    let checked = demanded (isPermitText s) 106 _ (demanded (isRegister register) 109 _ ship .1) in
+    let crc = demanded (isCrcRight s) 17 _ (checked .1) .0 in
+    record {
+      size = text-size s (checked .0);
+      hex-text = text-hex s (checked .0);
+      crc = eqb-true (hexNumber (part 8 s 16)) (crc32Of (part 16 s 0)) crc;
+    }
+
+part-below : (n : ℕ) (s : List ℕ) (at : ℕ) → Below 256 s → Below 256 (part n s at)
+part-below n s at below = take-below n (drop at s) (drop-below at s below)
+
+module _ (s t : List ℕ) (i : ℕ) (change : DifferAt i s t) (a : Accepted s) (b : Accepted t) where
+  -- a change of one of the 16 characters changes their CRC-32, and not the one that is written
+  changed-text : Below 256 s → Below 256 t → i < 16 → ⊥
+  changed-text below-s below-t h =
+      one-change (part 16 s 0) (part 16 t 0) (i - 0) (part-below 16 s 0 below-s) (part-below 16 t 0 below-t)
+      (part-differs change 16 0 (omega (arith, a .size)) (omega arith) (omega arith))
+      (sym (a .crc) ∙ ap hexNumber (part-after change 8 16 (omega (arith, a .size)) h) ∙ b .crc)
+
+  -- a change of one of the 8 changes the CRC-32 that is written, and not the 16 characters
+  changed-crc : 16 ≤ i → i < 24 → ⊥
+  changed-crc from to =
+      let size : 16 + 8 ≤ length s = omega (arith, a .size) in
+      let differ : DifferAt (i - 16) (part 8 s 16) (part 8 t 16) = part-differs change 8 16 size from to in
+      differ .there
+      (ap (λ (l : List ℕ). getD l (i - 16) 0)
+      (text-injective hex (part 8 s 16) (part 8 t 16)
+      (all-there isHex 8 s 16 (second-hex s (a .hex-text)))
+      (all-there isHex 8 t 16 (second-hex t (b .hex-text)))
+      (differ .one-length)
+      (a .crc ∙ ap crc32Of (part-before change 16 0 (omega (arith, a .size)) from) ∙ sym (b .crc))))
+
+  changed : Below 256 s → Below 256 t → i < 24 → ⊥
+  changed below-s below-t early =
+      either (ltb i 16)
+      (λ h. changed-text below-s below-t (ltb-true i 16 h))
+      (λ h. changed-crc (ltb-false i 16 h) early)
+
+pub user-permit-guarded : UserPermitGuarded
+user-permit-guarded register s t i below-s below-t early change ship =
+    either (isShip (readPermit register t))
+    (λ other. absurd (changed s t i change (accepted register s ship) (accepted register t other) below-s below-t early))
+    (λ refused. refused)

@@ -1,0 +1,5 @@
+pub mod Registers
+pub mod UserPermits
+pub mod PermitsBack
+pub mod ShipRead
+pub mod ChangedPermits

@@ -1,0 +1,39 @@
+-- `user_permit::enciphered` meets its contract. Assumes nothing.
+use mathlib.Core.Path.{ap₂, _∙_}
+use borrow.Author.Needs.{needs}
+use Rattle.blowfish.specs.Cipher.{encipherOf}
+use Rattle.user_permit.proofs.UserPermits.{maker-words}
+use Rattle.user_permit.proofs.enciphered.Statement.{statement}
+use Rattle.user_permit.proofs.enciphered.Tie as tie
+
+bytes40-requires : tie.Need-bytes40-requires
+bytes40-requires c κs = search needs
+
+slice-aggregate-key-schedule : tie.Need-slice-aggregate-key-schedule
+slice-aggregate-key-schedule c = search needs
+
+key-schedule-requires : tie.Need-key-schedule-requires
+key-schedule-requires c κs = search needs
+
+pad40-requires : tie.Need-pad40-requires
+pad40-requires c κs = search needs
+
+encipher-requires : tie.Need-encipher-requires
+encipher-requires c κs = search needs
+
+returns : tie.Need-returns
+returns c =
+    let scheduled = c .before .before .before in
+    c .encipher .ensures
+    ∙ ap₂ encipherOf (maker-words _ _ _ _ (scheduled .before .before .before .bytes40 .ensures) (scheduled .key-schedule .ensures .1)) (c .before .pad40 .ensures)
+
+pub enciphered-spec : {M : Type 1} → statement M
+enciphered-spec =
+    tie.close
+    (tie.spec
+    bytes40-requires
+    slice-aggregate-key-schedule
+    key-schedule-requires
+    pad40-requires
+    encipher-requires
+    returns)

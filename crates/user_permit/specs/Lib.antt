@@ -1,0 +1,6 @@
+pub mod Register
+pub mod UserPermit
+pub mod Answers
+pub mod ReadBack
+pub mod OneCharacter
+pub mod Laws

@@ -1,0 +1,2 @@
+pub mod LinePlaced
+pub mod LineAnswers
