@@ -1,4 +1,4 @@
-// The starting P and S1 to S4. No reader has to trust the numbers: they are proved to equal what specs/Pi.antt works out.
+// Pi's fraction as the words that Blowfish starts from: P, then S1 to S4. No reader has to trust the numbers: they are proved to equal what specs/Pi.antt works out.
 ghost use mathlib.Core.Path.{_≡_};
 ghost use Prim.Native.Nat.{_+_, _≤_};
 ghost use lib.ListN.{length};
