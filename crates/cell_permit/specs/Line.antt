@@ -13,7 +13,7 @@ use Rattle.bytes.specs.declared.numbers.Reading.{Reading}
 use Rattle.bytes.specs.declared.numbers.Reading.the-variants.{Number, Wrong}
 use Rattle.blowfish.specs.Cipher.{decipherOf}
 use Rattle.dates.specs.Calendar.{isDate}
-use Rattle.dates.specs.Notice.{daysLeft, noticeOf}
+use Rattle.dates.specs.Notice.{daysLeft, isDays, noticeOf}
 use Rattle.dates.specs.Notice as notice
 use Rattle.forms.specs.Order.{demand}
 use Rattle.forms.specs.Identifiers.{isHwId}
@@ -119,9 +119,9 @@ checked words today days line p =
 unfoldable pub readWith : List ℕ → ℕ → ℕ → List ℕ → Line
 readWith words today days line = demand (isLine line) (Refused 12) (checked words today days line (partsOf line))
 
--- HW_ID, today and warning days as given: 18, then 14, then 103 for days outside 1 to 90, else 0
+-- HW_ID, today and warning days as given: 18, then 14, then 103 for days that are no warning days, else 0
 unfoldable pub givenNumber : ℕ → ℕ → ℕ → ℕ
-givenNumber hw today days = demand (isHwId hw) 18 (demand (isDate today) 14 (demand (leb 1 days && leb days 90) 103 0))
+givenNumber hw today days = demand (isHwId hw) 18 (demand (isDate today) 14 (demand (isDays days) 103 0))
 
 -- reading a line
 unfoldable pub readLine : ℕ → ℕ → ℕ → List ℕ → Line

@@ -318,7 +318,7 @@ pub fn line_number(line: Line) -> u32
     }
 }
 
-// HW_ID, today and warning days as given: 18, then 14, then 103 for days outside 1 to 90, else 0.
+// HW_ID, today and warning days as given: 18, then 14, then 103 for days that are no warning days, else 0.
 pub fn given_number(hw: u64, today: u32, days: u32) -> u32
     ensures { λ r. ⌜ r ≡ givenNumber hw today days ⌝ }
 {
@@ -328,10 +328,7 @@ pub fn given_number(hw: u64, today: u32, days: u32) -> u32
     if !dates::is_date(today) {
         return 14;
     }
-    if days < 1 {
-        return 103;
-    }
-    if 90 < days {
+    if !dates::is_days(days) {
         return 103;
     }
     0

@@ -1,7 +1,7 @@
 -- The days left until an expiry, and the notice that they give. Dates are numbers YYYYMMDD.
 use Prim.Native.Nat.{ℕ, suc}
-use mathlib.Core.Bool.{cond}
-use lib.Dec.{ltb}
+use mathlib.Core.Bool.{Bool, cond, _&&_}
+use lib.Dec.{leb, ltb}
 use lib.IntN.{ℤ, pos, negsuc, negℤ, _-ℤ_}
 use Rattle.dates.specs.Calendar.{dayNumber}
 use Rattle.dates.specs.declared.DaysLeft.{DaysLeft}
@@ -26,6 +26,10 @@ leftOf today expiry = formOf (daysLeft today expiry)
 abbrev pub daysMeant : DaysLeft → ℤ
 daysMeant (Passed n) = negℤ (pos n)
 daysMeant (Left n) = pos n
+
+-- warning days are 1 to 90
+unfoldable pub isDays : ℕ → Bool
+isDays days = leb 1 days && leb days 90
 
 -- days left below zero: expired; from zero to less than the warning days: soon; otherwise current
 unfoldable pub noticeOf : ℤ → ℕ → Notice

@@ -2,7 +2,7 @@
 ghost use mathlib.Core.Path.{_≡_};
 ghost use Prim.Native.Nat.{_≤_};
 ghost use Rattle.dates.specs.Calendar.{isLeap, daysIn, within, isDate, daysBeforeMonth, dayNumber};
-ghost use Rattle.dates.specs.Notice.{daysLeft, leftOf, noticeOf, noticeNumber};
+ghost use Rattle.dates.specs.Notice.{daysLeft, leftOf, isDays, noticeOf, noticeNumber};
 
 // What an expiry says today.
 pub enum Notice {
@@ -99,6 +99,13 @@ pub fn days_left(today: u32, expiry: u32) -> DaysLeft
     } else {
         DaysLeft::Left(to - from)
     }
+}
+
+// Whether a number is warning days.
+pub fn is_days(days: u32) -> bool
+    ensures { λ r. ⌜ r ≡ isDays days ⌝ }
+{
+    1 <= days && days <= 90
 }
 
 // Expired once the date has passed, soon while less than the warning days are left.

@@ -13,8 +13,10 @@ use Rattle.bytes.proofs.Every.{and-first, and-second}
 use Rattle.forms.specs.Identifiers.{isCellName, isCellKey, isServerId}
 use Rattle.forms.proofs.Fits.{text-fits}
 use Rattle.tenants.specs.declared.Setting.{Setting}
-use Rattle.tenants.specs.Rules.{isTenant, isDays, isHeld}
+use Rattle.dates.specs.Notice.{isDays}
+use Rattle.tenants.specs.Rules.{isTenant, isHeld}
 use Rattle.tenants.specs.Cells.{startsAbove}
+use Rattle.tenants.proofs.Ranges.{days-below}
 use Rattle.tenants.specs.Together.{cellIn, BookRecord, Book, tenantOf, nameOf, named, isSetting, areSettings, quotaSum, isRecord, areRecords, withinQuotas, isGood}
 use Rattle.layout.proofs.Each.{Each}
 
@@ -36,14 +38,12 @@ pub record BookFits (book : Book) : Type 0 where
   pub records : Each RecordFits (book .records)
 
 setting-fits : (x : Setting) → isSetting x ≡ true → x .quota ≤ 512 → SettingFits x
-unfolding isSetting isDays
-setting-fits x good most =
-    let days = and-first (isDays (x .days)) (isServerId (x .server)) good in
-    record {
-      quota = omega arith;
-      days = omega (arith, leb-true (x .days) 90 (and-second (leb 1 (x .days)) (leb (x .days) 90) days));
-      server = text-fits isNameCharacter 2 (x .server) (and-second (isDays (x .days)) (isServerId (x .server)) good);
-    }
+unfolding isSetting
+setting-fits x good most = record {
+  quota = omega arith;
+  days = days-below (x .days) (and-first (isDays (x .days)) (isServerId (x .server)) good);
+  server = text-fits isNameCharacter 2 (x .server) (and-second (isDays (x .days)) (isServerId (x .server)) good);
+}
 
 settings-fit : (settings : List Setting) → areSettings settings ≡ true → quotaSum settings ≤ 512 → Each SettingFits settings
 unfolding areSettings quotaSum

@@ -5,7 +5,7 @@ use mathlib.Core.Bool.{Bool, true, false, _&&_}
 use mathlib.Core.List.{List}
 use Prim.Native.Nat.{ℕ, zero, suc, _+_, _≤_, _<_}
 use native.Mathlib.Omega.{arith}
-use borrow.Author.Tests.{le-leb, lt-leb, eqb-true, eq-eqb}
+use borrow.Author.Tests.{eqb-true, eq-eqb}
 use lib.Dec.{leb}
 use lib.ListN.{length, getD}
 use Rattle.bytes.specs.Numbers.{Below}
@@ -14,7 +14,7 @@ use Rattle.bytes.proofs.Every.{and-first, and-second}
 use Rattle.bytes.proofs.Places.{number-at-below}
 use Rattle.forms.specs.Identifiers.{isServerId}
 use Rattle.tenants.specs.declared.Setting.{Setting}
-use Rattle.tenants.specs.Rules.{isDays}
+use Rattle.dates.specs.Notice.{isDays}
 use Rattle.tenants.specs.Together.{isSetting, areSettings}
 use Rattle.layout.specs.Layout.{settingSize, settingPlace, recordsPlace, settingAt, eachFrom}
 use Rattle.layout.specs.Judging.{isZero, settingPart, allFrom, settingTest, settingsTest}
@@ -23,25 +23,19 @@ use Rattle.layout.proofs.Parts.{number-in-part, byte-in-part}
 use Rattle.layout.proofs.AllFrom.{all-each, each-all, Passed, passed-none, passed-next, passed-all, one-fails}
 use Rattle.layout.proofs.QuotaSums.{Summed, summed-none, summed-next, summed-all}
 
-module _ (p : List ℕ) (days : ℕ) (is : days ≡ getD p 2 0) where
-  pub days-below : days < 1 → settingTest p ≡ false
-  unfolding settingTest isDays
-  days-below low = rw (lt-leb 1 (getD p 2 0) (rw is at low))
+module _ (p : List ℕ) (days : Bool) (is : days ≡ isDays (getD p 2 0)) where
+  pub no-days : days ≡ false → settingTest p ≡ false
+  unfolding settingTest
+  no-days wrong = rw (sym is ∙ wrong)
 
-  module _ (low : 1 ≤ days) where
-    pub days-beyond : 90 < days → settingTest p ≡ false
-    unfolding settingTest isDays
-    days-beyond high = rw (le-leb 1 (getD p 2 0) (rw is at low), lt-leb (getD p 2 0) 90 (rw is at high))
+  module _ (fit : days ≡ true) (server : Bool) (told : server ≡ isServerId (numberAt 2 p 3)) where
+    pub no-server : server ≡ false → settingTest p ≡ false
+    unfolding settingTest
+    no-server wrong = rw (sym is ∙ fit, sym told ∙ wrong)
 
-    module _ (high : days ≤ 90) (server : Bool) (told : server ≡ isServerId (numberAt 2 p 3)) where
-      pub no-server : server ≡ false → settingTest p ≡ false
-      unfolding settingTest isDays
-      no-server wrong = rw (le-leb 1 (getD p 2 0) (rw is at low), le-leb (getD p 2 0) 90 (rw is at high), sym told ∙ wrong)
-
-      pub by-last-byte : server ≡ true → (last : ℕ) → last ≡ getD p 5 0 → isZero last ≡ settingTest p
-      unfolding settingTest isDays
-      by-last-byte right last e =
-          rw (le-leb 1 (getD p 2 0) (rw is at low), le-leb (getD p 2 0) 90 (rw is at high), sym told ∙ right) (ap isZero e)
+    pub by-last-byte : server ≡ true → (last : ℕ) → last ≡ getD p 5 0 → isZero last ≡ settingTest p
+    unfolding settingTest
+    by-last-byte right last e = rw (sym is ∙ fit, sym told ∙ right) (ap isZero e)
 
 -- all of a row are settings where each is one
 settings-each : (at : ℕ → Setting) (t n : ℕ) → areSettings (eachFrom at t n) ≡ allFrom (λ (u : ℕ). isSetting (at u)) t n

@@ -72,11 +72,7 @@ fn is_zero(s: &[u8]) -> bool
 fn is_setting(part: &[u8]) -> bool
     ensures { λ r. ⌜ r ≡ settingTest (now (part .entry)) ⌝ }
 {
-    let days = byte_at(part, 2);
-    if days < 1 {
-        return false;
-    }
-    if 90 < days {
+    if !dates::is_days(byte_at(part, 2) as u32) {
         return false;
     }
     if !is_server_id(number16(part, 3) as u32) {

@@ -9,22 +9,8 @@ use Rattle.forms.specs.Order.{demand}
 use Rattle.forms.specs.Identifiers.{isCellName}
 use Rattle.tenants.specs.declared.Held.{Held}
 use Rattle.tenants.specs.Cells.{cellOf}
-use Rattle.tenants.specs.Rules.{
-  Own,
-  Change,
-  enters,
-  withdraws,
-  sets,
-  nothing,
-  refuses,
-  isTenant,
-  isDays,
-  isHeld,
-  isSome,
-  entering,
-  withdrawing,
-  settingDays,
-}
+use Rattle.dates.specs.Notice.{isDays}
+use Rattle.tenants.specs.Rules.{Own, Change, enters, withdraws, sets, nothing, refuses, isTenant, isHeld, isSome, entering, withdrawing, settingDays}
 use Rattle.tenants.specs.Calls.{Call, enter, withdraw, setDays, askEdition, issue, check, changeOf}
 
 -- the name is held, or the quota has room for a new one

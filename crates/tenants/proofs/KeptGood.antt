@@ -12,7 +12,8 @@ use Rattle.forms.specs.Identifiers.{isServerId}
 use Rattle.tenants.specs.declared.Held.{Held}
 use Rattle.tenants.specs.declared.Setting.{Setting}
 use Rattle.tenants.specs.Cells.{entered, withdrawn}
-use Rattle.tenants.specs.Rules.{Change, enters, withdraws, sets, nothing, refuses, isTenant, isDays}
+use Rattle.dates.specs.Notice.{isDays}
+use Rattle.tenants.specs.Rules.{Change, enters, withdraws, sets, nothing, refuses, isTenant}
 use Rattle.tenants.specs.Calls.{Call, changeOf}
 use Rattle.tenants.specs.Alone.{withDays}
 use Rattle.tenants.specs.Together.{

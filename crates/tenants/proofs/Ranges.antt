@@ -11,7 +11,8 @@ use Rattle.bytes.proofs.Every.{and-first, and-second, either, same-tests}
 use Rattle.forms.specs.Identifiers.{isCellName, isCellKey}
 use Rattle.forms.proofs.Fits.{text-fits}
 use Rattle.tenants.specs.declared.Held.{Held}
-use Rattle.tenants.specs.Rules.{isTenant, isDays, isHeld}
+use Rattle.dates.specs.Notice.{isDays}
+use Rattle.tenants.specs.Rules.{isTenant, isHeld}
 use Rattle.tenants.specs.Together.{inBook, cellIn, BookRecord, names, tenantOf, isRecord}
 
 module _ (t : ℕ) where

@@ -6,6 +6,7 @@ use Prim.Native.Nat.{ℕ}
 use lib.Dec.{leb, ltb}
 use lib.ListN.{length}
 use Rattle.dates.specs.Calendar.{isDate}
+use Rattle.dates.specs.Notice.{isDays}
 use Rattle.forms.specs.Order.{demand}
 use Rattle.forms.specs.Identifiers.{isHwId, isCellName, isCellKey}
 use Rattle.user_permit.specs.Register.{isRegister}
@@ -48,10 +49,6 @@ changeNumber (refuses n) = n
 -- tenants are 0 to 15
 unfoldable pub isTenant : ℕ → Bool
 isTenant t = leb t 15
-
--- warning days are 1 to 90
-unfoldable pub isDays : ℕ → Bool
-isDays days = leb 1 days && leb days 90
 
 -- a cell's name, edition (1 to 999) and keys are in their ranges and alphabets
 unfoldable pub isHeld : Held → Bool

@@ -8,7 +8,8 @@ use Rattle.forms.specs.Identifiers.{isServerId}
 use Rattle.tenants.specs.declared.Held.{Held}
 use Rattle.tenants.specs.declared.Setting.{Setting}
 use Rattle.tenants.specs.Cells.{entered, withdrawn, startsAbove}
-use Rattle.tenants.specs.Rules.{Own, Change, enters, withdraws, sets, nothing, refuses, isTenant, isDays, isHeld}
+use Rattle.dates.specs.Notice.{isDays}
+use Rattle.tenants.specs.Rules.{Own, Change, enters, withdraws, sets, nothing, refuses, isTenant, isHeld}
 use Rattle.tenants.specs.Alone.{withDays}
 
 -- a record of the book is a tenant's cell under its full name; both lists, a tenant's cells and the records, are kept by the same rules

@@ -2,7 +2,7 @@
 -- Assumes nothing.
 use mathlib.Core.Path.{_≡_, sym, _∙_}
 use mathlib.Core.Bool.{true}
-use borrow.Author.Tests.{not-true, not-false, le-leb, lt-leb}
+use borrow.Author.Tests.{not-true, not-false}
 use borrow.Author.Needs.{needs}
 use Rattle.dates.specs.Calendar.{isDate}
 use Rattle.forms.specs.Identifiers.{isHwId}
@@ -31,21 +31,20 @@ returns-2 : tie.Need-returns-2
 unfolding givenNumber
 returns-2 c = rw (hw-id (c .before .before), sym (c .before .is-date .ensures) ∙ not-true _ (c .if2 .taken))
 
+is-days-requires : tie.Need-is-days-requires
+is-days-requires c κs = search needs
+
 returns-3 : tie.Need-returns-3
 unfolding givenNumber
-returns-3 c = rw (hw-id (c .before .before .before), today (c .before), lt-leb _ _ (c .if3 .taken))
+returns-3 c =
+    rw (hw-id (c .before .before .before .before), today (c .before .before), sym (c .before .is-days .ensures) ∙ not-true _ (c .if3 .taken))
 
 returns-4 : tie.Need-returns-4
 unfolding givenNumber
 returns-4 c =
-    rw (hw-id (c .before .before .before .before), today (c .before .before), le-leb _ _ (c .before .if3 .left), lt-leb _ _ (c .if4 .taken))
-
-returns-5 : tie.Need-returns-5
-unfolding givenNumber
-returns-5 c =
-    rw (hw-id (c .before .before .before .before), today (c .before .before), le-leb _ _ (c .before .if3 .left), le-leb _ _ (c .if4 .left))
+    rw (hw-id (c .before .before .before .before), today (c .before .before), sym (c .before .is-days .ensures) ∙ not-false _ (c .if3 .left))
 
 pub given-number-spec : {M : Type 1} → statement M
 given-number-spec =
     tie.close
-    (tie.spec is-hw-id-requires returns is-date-requires returns-2 returns-3 returns-4 returns-5)
+    (tie.spec is-hw-id-requires returns is-date-requires returns-2 is-days-requires returns-3 returns-4)
