@@ -22,7 +22,8 @@ use Rattle.tenants.specs.declared.Held.{Held}
 use Rattle.tenants.specs.declared.Setting.{Setting}
 use Rattle.tenants.specs.declared.Asked.the-variants as asked
 use Rattle.tenants.specs.Cells.{cellOf}
-use Rattle.tenants.specs.Rules.{Own, isTenant, isDays, asking, lineCell, lineFor, issuing, checking}
+use Rattle.dates.specs.Notice.{isDays}
+use Rattle.tenants.specs.Rules.{Own, isTenant, asking, lineCell, lineFor, issuing, checking}
 use Rattle.layout.specs.Layout.{isBook, ownIn}
 use Rattle.asking.specs.Issuing.{lineWritten}
 use Rattle.asking.specs.Asking.{editionIn, issuedFrom, checkedBy}

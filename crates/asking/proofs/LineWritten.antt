@@ -16,7 +16,8 @@ use Rattle.user_permit.specs.declared.UserPermit.the-variants as user-permit
 use Rattle.user_permit.proofs.ShipRead.{ship-form}
 use Rattle.tenants.specs.declared.Held.{Held}
 use Rattle.tenants.specs.Cells.{cellOf}
-use Rattle.tenants.specs.Rules.{isTenant, isDays, lineCell, lineFor}
+use Rattle.dates.specs.Notice.{isDays}
+use Rattle.tenants.specs.Rules.{isTenant, lineCell, lineFor}
 use Rattle.tenants.specs.Together.{ownOf, isSetting}
 use Rattle.tenants.proofs.Ranges.{Fit, tenant-below, held-fits}
 use Rattle.tenants.proofs.FoundHeld.{found-held}

@@ -12,15 +12,15 @@ ghost use Rattle.tenants.specs.Rules.{asking, issuing, checking};
 ghost use Rattle.layout.specs.Layout.{isBook, ownIn};
 ghost use Rattle.asking.specs.Issuing.{lineWritten};
 ghost use Rattle.asking.specs.Asking.{editionIn, issuedFrom, checkedBy};
-use forms::Written;
-use forms::identifiers::is_cell_name;
 use cell_permit::Cell;
 use cell_permit::Line;
-use user_permit::UserPermit;
+use forms::Written;
+use forms::identifiers::is_cell_name;
 use records::finding::Found;
 use records::finding::cell_at;
 use records::finding::find;
 use tenants::Asked;
+use user_permit::UserPermit;
 
 // The edition of a tenant's cell in an undamaged book.
 fn edition_in(book: &[u8], tenant: u32, name: u64) -> Asked

@@ -11,7 +11,8 @@ use Rattle.forms.specs.Order.{demand}
 use Rattle.forms.specs.Identifiers.{isCellName}
 use Rattle.tenants.specs.declared.Held.{Held}
 use Rattle.tenants.specs.Cells.{entered, withdrawn, cellOf}
-use Rattle.tenants.specs.Rules.{Own, Change, enters, withdraws, sets, refuses, changeNumber, isTenant, isDays, isHeld, isSome, entering, withdrawing, settingDays, asking, issuing}
+use Rattle.dates.specs.Notice.{isDays}
+use Rattle.tenants.specs.Rules.{Own, Change, enters, withdraws, sets, refuses, changeNumber, isTenant, isHeld, isSome, entering, withdrawing, settingDays, asking, issuing}
 use Rattle.tenants.specs.Calls.{Call, enter, withdraw, setDays, changeOf}
 use Rattle.tenants.specs.Alone.{after}
 use Rattle.tenants.specs.Together.{ownOf}

@@ -21,7 +21,8 @@ use Rattle.cell_permit.proofs.LineBack.{line-reads-back}
 use Rattle.tenants.specs.declared.Held.{Held}
 use Rattle.tenants.specs.declared.Setting.{Setting}
 use Rattle.tenants.specs.Cells.{cellOf}
-use Rattle.tenants.specs.Rules.{isTenant, isDays, lineCell, issuing, checking}
+use Rattle.dates.specs.Notice.{isDays}
+use Rattle.tenants.specs.Rules.{isTenant, lineCell, issuing, checking}
 use Rattle.tenants.proofs.Ordered.{found-name}
 use Rattle.layout.specs.Layout.{isBook, ownIn}
 use Rattle.asking.specs.Asking.{issuedFrom, checkedBy}

@@ -8,8 +8,8 @@ ghost use Rattle.bytes.specs.Places.{pointAt};
 ghost use Rattle.cell_permit.specs.CellPermit.{shipWords, checkOf};
 ghost use Rattle.cell_permit.specs.Line.{commaAt, editionLength, shapeOf, commentOf, commentAt, commentStart, keyUnder, givenNumber, readWith, readLine, lineNumber};
 ghost use Rattle.cell_permit.specs.LineParts.{permitOf, isLevelPart, isServerPart, fieldsOf};
-use text::characters::Alphabet;
 use bytes::numbers::Reading;
+use text::characters::Alphabet;
 
 // What a line is written from.
 pub struct Cell {

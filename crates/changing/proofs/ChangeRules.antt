@@ -10,21 +10,8 @@ use lib.ListN.{length}
 use Rattle.forms.specs.Identifiers.{isCellName}
 use Rattle.tenants.specs.declared.Held.{Held}
 use Rattle.tenants.specs.Cells.{cellOf}
-use Rattle.tenants.specs.Rules.{
-  Change,
-  enters,
-  withdraws,
-  sets,
-  refuses,
-  changeNumber,
-  isTenant,
-  isDays,
-  isHeld,
-  isSome,
-  entering,
-  withdrawing,
-  settingDays,
-}
+use Rattle.dates.specs.Notice.{isDays}
+use Rattle.tenants.specs.Rules.{Change, enters, withdraws, sets, refuses, changeNumber, isTenant, isHeld, isSome, entering, withdrawing, settingDays}
 use Rattle.layout.specs.Layout.{isBook, ownIn}
 use Rattle.changing.specs.Changing.{entry, withdrawal, newDays, bytesAfter}
 

@@ -9,7 +9,8 @@ use lib.ListN.{length, set}
 use Rattle.forms.specs.Identifiers.{isCellName}
 use Rattle.tenants.specs.declared.Held.{Held}
 use Rattle.tenants.specs.declared.Setting.{Setting}
-use Rattle.tenants.specs.Rules.{enters, withdraws, sets, isDays, isHeld}
+use Rattle.dates.specs.Notice.{isDays}
+use Rattle.tenants.specs.Rules.{enters, withdraws, sets, isHeld}
 use Rattle.tenants.specs.Together.{inBook, fullName, ownOf}
 use Rattle.tenants.proofs.Ranges.{tenant-is, days-below, name-below, held-below}
 use Rattle.tenants.proofs.Room.{has-place}

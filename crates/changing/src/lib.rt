@@ -2,7 +2,7 @@
 ghost use mathlib.Core.Path.{_≡_};
 ghost use mathlib.Core.Bool.{true};
 ghost use Prim.Native.Nat.{_≤_};
-ghost use Rattle.tenants.specs.Rules.{isDays, isHeld, changeNumber};
+ghost use Rattle.tenants.specs.Rules.{isHeld, changeNumber};
 ghost use Rattle.tenants.specs.Together.{fullName};
 ghost use Rattle.layout.specs.Layout.{isBook};
 ghost use Rattle.records.specs.Finding.{searched};
@@ -30,13 +30,6 @@ fn is_held(cell: Held) -> bool
         return false;
     }
     cell.key2 <= 0xFF_FFFF_FFFF
-}
-
-// Whether a number is warning days.
-fn is_days(days: u32) -> bool
-    ensures { λ r. ⌜ r ≡ isDays days ⌝ }
-{
-    1 <= days && days <= 90
 }
 
 // Enters a cell with a new name, which would go to place i: its tenant's own quota decides.
@@ -111,7 +104,7 @@ pub fn set_days(book: &mut [u8], tenant: u32, days: u32) -> u32
     if 15 < tenant {
         return 102;
     }
-    if !is_days(days) {
+    if !dates::is_days(days) {
         return 103;
     }
     let at = SETTINGS_PLACE + SETTING_SIZE * tenant as usize;

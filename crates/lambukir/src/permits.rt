@@ -6,10 +6,10 @@ ghost use Rattle.user_permit.specs.UserPermit.{made, readPermit};
 ghost use Rattle.cell_permit.specs.CellPermit.{writtenLine};
 ghost use Rattle.cell_permit.specs.Line.{readLine};
 ghost use Rattle.lambukir.specs.Permits.{cellFrom, userPermitRead, lineRead, textWritten, commentPart};
-use forms::Written;
 use cell_permit::Cell;
 use cell_permit::CommentPlace;
 use cell_permit::Line;
+use forms::Written;
 use user_permit::UserPermit;
 
 // lambukir_user_permit of the header.

@@ -5,12 +5,12 @@ ghost use lib.ListN.{length, getD};
 ghost use Rattle.bytes.specs.Every.{allOf};
 ghost use Rattle.layout.specs.Layout.{recordsPlace, usedLength, recordCount, settingAt, isBook};
 ghost use Rattle.layout.specs.Judging.{isZero, allFrom, settingTest, settingsTest, aboveTest, recordTest, quotaTest, recordsTest};
-use forms::identifiers::is_cell_name;
-use forms::identifiers::is_server_id;
-use tenants::Setting;
 use bytes::numbers::number16;
 use bytes::numbers::number32;
 use bytes::numbers::number64;
+use forms::identifiers::is_cell_name;
+use forms::identifiers::is_server_id;
+use tenants::Setting;
 use text::reading::byte_at;
 
 // How many bytes a book has.

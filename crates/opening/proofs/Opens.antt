@@ -18,7 +18,7 @@ use Rattle.forms.specs.Order.{demand}
 use Rattle.forms.specs.Identifiers.{isServerId}
 use Rattle.forms.specs.Output.{text, refusal}
 use Rattle.forms.proofs.NamesAt.{name-at}
-use Rattle.tenants.specs.Rules.{isDays}
+use Rattle.dates.specs.Notice.{isDays}
 use Rattle.tenants.specs.Together.{cellsOf, noSetting, isSetting, quotaSum, isGood}
 use Rattle.tenants.proofs.Goodness.{Good, facts-good}
 use Rattle.layout.specs.Layout.{bookSize, bookBytes}

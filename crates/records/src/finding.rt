@@ -4,12 +4,12 @@ ghost use lib.Dec.{ltb, eqb};
 ghost use Rattle.tenants.specs.Together.{fullName, cellIn};
 ghost use Rattle.layout.specs.Layout.{recordAt};
 ghost use Rattle.records.specs.Finding.{nameAt, placeIn, searched, heldIn};
-use layout::RECORD_SIZE;
-use layout::RECORDS_PLACE;
-use tenants::Held;
 use bytes::numbers::number16;
 use bytes::numbers::number40;
 use bytes::numbers::number64;
+use layout::RECORD_SIZE;
+use layout::RECORDS_PLACE;
+use tenants::Held;
 use text::reading::byte_at;
 
 // Where a cell stands among the records, or where it would go.

@@ -2,8 +2,8 @@
 ghost use mathlib.Core.Path.{_≡_};
 ghost use mathlib.Core.Bool.{true};
 ghost use Rattle.report.specs.LookThrough.{isFirstLine, hwOf, todayOf, daysOf, startNumber};
-use text::characters::Alphabet;
 use bytes::numbers::Reading;
+use text::characters::Alphabet;
 
 // Whether the first line has its shape.
 fn is_first_line(input: &[u8]) -> bool

@@ -7,12 +7,12 @@ ghost use Rattle.bytes.specs.Padding.{padOf, unpadOf};
 ghost use Rattle.blowfish.specs.Cipher.{encipherOf, decipherOf};
 ghost use Rattle.forms.specs.Output.{writtenOf, lentAfter};
 ghost use Rattle.user_permit.specs.UserPermit.{makerWords, userPermit, made, shipOf, readPermit};
+use bytes::numbers::Reading;
 use forms::Written;
 use forms::identifiers::is_hw_id;
 use register::Maker;
 use register::is_register;
 use register::key_of;
-use bytes::numbers::Reading;
 use text::reading::hex_at;
 use text::writing::put_hex;
 

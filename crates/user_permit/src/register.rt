@@ -3,10 +3,10 @@ ghost use mathlib.Core.Path.{_≡_};
 ghost use Prim.Native.Nat.{_*_, _<_};
 ghost use lib.ListN.{length};
 ghost use Rattle.user_permit.specs.Register.{isEntry, isRegister, keyOf};
-use forms::identifiers::is_m_id;
-use forms::identifiers::is_m_key;
 use bytes::numbers::number16;
 use bytes::numbers::number40;
+use forms::identifiers::is_m_id;
+use forms::identifiers::is_m_key;
 
 // The M_KEY of a manufacturer, or that its M_ID is not in the register.
 pub enum Maker {

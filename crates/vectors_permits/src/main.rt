@@ -1,9 +1,9 @@
 // Runs the worked permits of S-63 (sections 10.6, 11.4 and 11.5): HW_ID 12348, M_KEY 98765, M_ID 01. `stdout` has what they must give.
-use libc::STDOUT_FILENO;
-use forms::Written;
 use cell_permit::Cell;
 use cell_permit::Line;
 use cell_permit::Record;
+use forms::Written;
+use libc::STDOUT_FILENO;
 use user_permit::UserPermit;
 
 fn print(text: &[u8]) {

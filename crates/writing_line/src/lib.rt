@@ -9,8 +9,8 @@ ghost use Rattle.text.specs.Characters.{decimalText};
 ghost use Rattle.text.specs.Texts.{placed, width};
 ghost use Rattle.forms.specs.Output.{writtenOf, lentAfter};
 ghost use Rattle.cell_permit.specs.CellPermit.{keyPart, unchecked, cellPermit, comma, fields, lineOf, lineEnd, isCell, writtenLine};
-use forms::Written;
 use cell_permit::Cell;
+use forms::Written;
 
 // Whether each value is in its range and alphabet, and the expiry is a date.
 pub fn is_cell(cell: Cell) -> bool

@@ -1,7 +1,7 @@
 -- `changing::is_days` meets its contract.
 -- Assumes nothing.
 use borrow.Author.Tests.{le-leb, lt-leb}
-use Rattle.tenants.specs.Rules.{isDays}
+use Rattle.dates.specs.Notice.{isDays}
 use Rattle.changing.proofs.is_days.Statement.{statement}
 use Rattle.changing.proofs.is_days.Tie as tie
 

@@ -7,7 +7,7 @@ use Prim.Native.Nat.{ℕ, _≤_}
 use native.Mathlib.Omega.{arith}
 use borrow.Author.Needs.{needs}
 use borrow.Author.Tests.{not-true, not-false}
-use Rattle.tenants.specs.Rules.{isDays}
+use Rattle.dates.specs.Notice.{isDays}
 use Rattle.tenants.proofs.Ranges.{tenant-is, tenant-not, days-below}
 use Rattle.layout.specs.Layout.{isBook}
 use Rattle.layout.proofs.Frame.{book-frame}
