@@ -8,21 +8,21 @@ use Prim.Native.Nat.{ℕ}
 use lib.Dec.{leb}
 use Rattle.bytes.proofs.Every.{either}
 use Rattle.dates.specs.Calendar.{isDate}
+use Rattle.dates.specs.Notice.{isDays}
 use Rattle.forms.specs.Identifiers.{isHwId, isCellName}
-use Rattle.user_permit.specs.Register.{isRegister}
-use Rattle.user_permit.specs.UserPermit.{readPermit}
-use Rattle.cell_permit.specs.CellPermit.{writtenLine}
-use Rattle.cell_permit.specs.Line.{givenNumber, readLine}
 use Rattle.forms.specs.Output.{Output, refusal, Answered}
 use Rattle.forms.specs.declared.Written.{Written}
-use Rattle.cell_permit.specs.declared.Line.the-variants as of-line
+use Rattle.user_permit.specs.Register.{isRegister}
+use Rattle.user_permit.specs.UserPermit.{readPermit}
 use Rattle.user_permit.specs.declared.UserPermit.{UserPermit}
 use Rattle.user_permit.specs.declared.UserPermit.the-variants as user-permit
+use Rattle.cell_permit.specs.CellPermit.{writtenLine}
+use Rattle.cell_permit.specs.Line.{givenNumber, readLine}
+use Rattle.cell_permit.specs.declared.Line.the-variants as of-line
 use Rattle.tenants.specs.declared.Held.{Held}
 use Rattle.tenants.specs.declared.Setting.{Setting}
 use Rattle.tenants.specs.declared.Asked.the-variants as asked
 use Rattle.tenants.specs.Cells.{cellOf}
-use Rattle.dates.specs.Notice.{isDays}
 use Rattle.tenants.specs.Rules.{Own, isTenant, asking, lineCell, lineFor, issuing, checking}
 use Rattle.layout.specs.Layout.{isBook, ownIn}
 use Rattle.asking.specs.Issuing.{lineWritten}

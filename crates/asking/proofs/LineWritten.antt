@@ -8,22 +8,22 @@ use Prim.Native.Nat.{ℕ, _^_, _≤_}
 use borrow.Author.Tests.{le-leb, lt-ltb}
 use Rattle.bytes.proofs.Every.{and-first, and-second}
 use Rattle.dates.specs.Calendar.{isDate}
+use Rattle.dates.specs.Notice.{isDays}
 use Rattle.forms.specs.Identifiers.{isServerId}
 use Rattle.user_permit.specs.UserPermit.{readPermit}
-use Rattle.cell_permit.specs.CellPermit.{isCell, writtenLine}
 use Rattle.user_permit.specs.declared.UserPermit.{UserPermit}
 use Rattle.user_permit.specs.declared.UserPermit.the-variants as user-permit
 use Rattle.user_permit.proofs.ShipRead.{ship-form}
+use Rattle.cell_permit.specs.CellPermit.{isCell, writtenLine}
 use Rattle.tenants.specs.declared.Held.{Held}
 use Rattle.tenants.specs.Cells.{cellOf}
-use Rattle.dates.specs.Notice.{isDays}
 use Rattle.tenants.specs.Rules.{isTenant, lineCell, lineFor}
 use Rattle.tenants.specs.Together.{ownOf, isSetting}
 use Rattle.tenants.proofs.Ranges.{Fit, tenant-below, held-fits}
 use Rattle.tenants.proofs.FoundHeld.{found-held}
 use Rattle.layout.specs.Layout.{bookOf, isBook, ownIn}
-use Rattle.asking.specs.Issuing.{lineWritten}
 use Rattle.layout.proofs.Promises.{good}
+use Rattle.asking.specs.Issuing.{lineWritten}
 
 module _ (s : List ℕ) (t : ℕ) (undamaged : isBook s ≡ true) (tenant : isTenant t ≡ true) where
   -- a tenant's setting is one

@@ -1,10 +1,10 @@
 -- What issuing ends in, as writing a line by itself gives it: for contracts inside the crate alone. On an undamaged book it is `lineFor` of the rules.
 use mathlib.Core.Option.{Option, none, some}
 use Prim.Native.Nat.{ℕ}
-use Rattle.cell_permit.specs.CellPermit.{writtenLine}
 use Rattle.forms.specs.Output.{Output, refusal}
 use Rattle.user_permit.specs.declared.UserPermit.{UserPermit}
 use Rattle.user_permit.specs.declared.UserPermit.the-variants as user-permit
+use Rattle.cell_permit.specs.CellPermit.{writtenLine}
 use Rattle.tenants.specs.declared.Held.{Held}
 use Rattle.tenants.specs.declared.Setting.{Setting}
 use Rattle.tenants.specs.Rules.{lineCell}

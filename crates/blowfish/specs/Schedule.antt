@@ -5,8 +5,8 @@ use Prim.Native.Nat.{ℕ, zero, suc, _+_, _*_, _/_, _%_, _^_}
 use lib.Bits.{bitXor}
 use lib.Dec.{leb}
 use lib.ListN.{length, getD, set}
-use Rattle.blowfish.specs.Cipher.{encipherOf}
 use Rattle.pi.specs.Pi.{startWords}
+use Rattle.blowfish.specs.Cipher.{encipherOf}
 
 -- a key has 4 to 56 bytes
 unfoldable pub isKey : List ℕ → Bool

@@ -7,11 +7,11 @@ use mathlib.Core.Option.{none, some}
 use Prim.Native.Nat.{ℕ}
 use native.Mathlib.Omega.{arith}
 use borrow.Author.Tests.{le-leb}
+use Rattle.dates.specs.Notice.{isDays}
 use Rattle.forms.specs.Order.{demand}
 use Rattle.forms.specs.Identifiers.{isCellName}
 use Rattle.tenants.specs.declared.Held.{Held}
 use Rattle.tenants.specs.Cells.{entered, withdrawn, cellOf}
-use Rattle.dates.specs.Notice.{isDays}
 use Rattle.tenants.specs.Rules.{Own, Change, enters, withdraws, sets, refuses, changeNumber, isTenant, isHeld, isSome, entering, withdrawing, settingDays, asking, issuing}
 use Rattle.tenants.specs.Calls.{Call, enter, withdraw, setDays, changeOf}
 use Rattle.tenants.specs.Alone.{after}

@@ -20,8 +20,8 @@ use Rattle.layout.proofs.Each.{each-is}
 use Rattle.layout.proofs.Fits.{book-fits}
 use Rattle.layout.proofs.ReadBack.{used-back}
 use Rattle.opening.specs.Opening.{firstSetting, emptyBook, opened}
-use Rattle.changing.specs.Changing.{entry, bytesAfter}
 use Rattle.opening.proofs.Opens.{opened-given, opens-empty}
+use Rattle.changing.specs.Changing.{entry, bytesAfter}
 
 module _ (quotas ids : List ℕ) (t : ℕ) (cell : Held) (tenant : isTenant t ≡ true) (roomy : 0 < getD quotas t 0) (held : isHeld cell ≡ true) where
   -- it is not refused

@@ -8,26 +8,26 @@ use Prim.Native.Nat.{ℕ, _≤_}
 use native.Mathlib.Omega.{arith}
 use borrow.Author.Tests.{le-leb}
 use Rattle.dates.specs.Calendar.{isDate}
+use Rattle.dates.specs.Notice.{isDays}
 use Rattle.forms.specs.Identifiers.{isHwId, isCellName}
+use Rattle.forms.specs.Output.{text}
 use Rattle.user_permit.specs.Register.{isRegister}
 use Rattle.user_permit.specs.UserPermit.{readPermit}
+use Rattle.user_permit.specs.declared.UserPermit.the-variants.{Ship}
+use Rattle.user_permit.proofs.ShipRead.{ship-form}
 use Rattle.cell_permit.specs.CellPermit.{shipWords, lineOf, lineEnd}
 use Rattle.cell_permit.specs.Line.{givenNumber, readWith, readLine}
 use Rattle.cell_permit.specs.ReadBack.{recordFor}
-use Rattle.forms.specs.Output.{text}
-use Rattle.user_permit.specs.declared.UserPermit.the-variants.{Ship}
-use Rattle.user_permit.proofs.ShipRead.{ship-form}
 use Rattle.cell_permit.proofs.LineBack.{line-reads-back}
 use Rattle.tenants.specs.declared.Held.{Held}
 use Rattle.tenants.specs.declared.Setting.{Setting}
 use Rattle.tenants.specs.Cells.{cellOf}
-use Rattle.dates.specs.Notice.{isDays}
 use Rattle.tenants.specs.Rules.{isTenant, lineCell, issuing, checking}
 use Rattle.tenants.proofs.Ordered.{found-name}
 use Rattle.layout.specs.Layout.{isBook, ownIn}
 use Rattle.asking.specs.Asking.{issuedFrom, checkedBy}
-use Rattle.book.specs.Kept.{IssuedReadsBack}
 use Rattle.asking.proofs.LineWritten.{set-days, fits, cell-good}
+use Rattle.book.specs.Kept.{IssuedReadsBack}
 
 module _ (hw today days : ℕ) (form : isHwId hw ≡ true) (date : isDate today ≡ true) (right : isDays days ≡ true) where
   given-zero : givenNumber hw today days ≡ 0

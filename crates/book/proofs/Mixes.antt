@@ -10,9 +10,9 @@ use Rattle.tenants.specs.Alone.{Made}
 use Rattle.tenants.proofs.MixedLists.{run, answers, same-run}
 use Rattle.tenants.proofs.MixedLists as lists
 use Rattle.layout.specs.Layout.{bookBytes, bookOf, isBook}
+use Rattle.layout.proofs.Promises.{good, written-so}
 use Rattle.book.specs.OnBook.{bookAfter}
 use Rattle.book.specs.Mixed.{afterAll, answersTo, Mixing, OwnAnswers, NothingElse}
-use Rattle.layout.proofs.Promises.{good, written-so}
 use Rattle.book.proofs.Undamaged.{answer-says, still-undamaged, book-after}
 
 -- all calls on the bytes are all calls on the book that they say

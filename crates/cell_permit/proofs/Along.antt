@@ -11,9 +11,9 @@ use lib.Seq.{drop-at, getD-at, getD-drop}
 use Rattle.bytes.specs.Numbers.{bytesOf, bytesNumber}
 use Rattle.bytes.specs.Every.{allOf}
 use Rattle.bytes.specs.Places.{numberAt}
-use Rattle.text.specs.Texts.{part, allAt}
 use Rattle.bytes.proofs.Digits.{digits-length, value-digits-fit}
 use Rattle.bytes.proofs.Places.{number-within}
+use Rattle.text.specs.Texts.{part, allAt}
 use Rattle.text.proofs.TextsAt.{part-front, all-front}
 
 -- from place at on, s is rest

@@ -8,9 +8,9 @@ use native.Mathlib.Omega.{arith}
 use lib.ListN.{length, take, drop, length-drop}
 use lib.Seq.{take-all, take-length}
 use denote.Ref.{RefT, ptr, now}
-use Rattle.text.specs.Characters.{isPrintable}
 use Rattle.bytes.specs.Places.{pointAt}
 use Rattle.bytes.proofs.Every.{either}
+use Rattle.text.specs.Characters.{isPrintable}
 use Rattle.text.proofs.TextsAt.{all-within}
 use Rattle.cell_permit.specs.Line.{isLine, partsOf, shapeOf, editionLength, commentPlace, commentOf, commentAt, commentStart}
 use Rattle.cell_permit.specs.Laws.{CommentWithin, CommentFrom, EmptyComment, CommentStands}

@@ -10,10 +10,10 @@ use borrow.Author.Tests.{leb-true, leb-false}
 use lib.Dec.{leb}
 use lib.ListN.{length, getD, length-map}
 use Rattle.bytes.specs.Numbers.{value}
-use Rattle.text.specs.Characters.{isDigit, digitValue, decimalText, decimalNumber}
 use Rattle.bytes.specs.Every.{allOf}
-use Rattle.text.specs.Texts.{width, numeral}
 use Rattle.bytes.proofs.Every.{either, all-first}
+use Rattle.text.specs.Characters.{isDigit, digitValue, decimalText, decimalNumber}
+use Rattle.text.specs.Texts.{width, numeral}
 use Rattle.text.proofs.Alphabets.{number-below, text-of-number}
 use Rattle.text.proofs.Notations.{decimal, digit-low}
 use Rattle.text.proofs.Numerals.{width-at-most, width-enough, width-positive, numeral-length, numeral-digits, numeral-number, numeral-first}

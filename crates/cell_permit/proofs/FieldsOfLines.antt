@@ -8,16 +8,16 @@ use native.Mathlib.Omega.{arith}
 use borrow.Author.Tests.{le-leb}
 use lib.ListN.{length, getD}
 use Rattle.bytes.specs.Numbers.{digits, bytesOf}
-use Rattle.text.specs.Characters.{isNameCharacter, digitCharacter, decimalText, decimalNumber}
 use Rattle.bytes.specs.Places.{numberAt}
-use Rattle.text.specs.Texts.{part}
 use Rattle.bytes.proofs.Digits.{digits-length}
+use Rattle.text.specs.Characters.{isNameCharacter, digitCharacter, decimalText, decimalNumber}
+use Rattle.text.specs.Texts.{part}
 use Rattle.text.proofs.Alphabets.{text-length, text-written, number-of-text-fit}
 use Rattle.text.proofs.Notations.{decimal}
+use Rattle.forms.proofs.Fits.{text-fits, text-all}
 use Rattle.cell_permit.specs.CellPermit.{comma}
 use Rattle.cell_permit.specs.Line.{expiryOf, editionLength, isPermit, isTail, isLine, partsOf, shapeOf, commentOf}
 use Rattle.cell_permit.specs.LineFields.{LineFields, editionText, permitText, lineText, AreFields, partsFor, FieldsRead}
-use Rattle.forms.proofs.Fits.{text-fits, text-all}
 use Rattle.cell_permit.proofs.GoodCell.{date-fits}
 use Rattle.cell_permit.proofs.LineSizes.{Sizes}
 use Rattle.cell_permit.proofs.Along.{From, part-there, rest-there, head-there, number-there}

@@ -9,10 +9,10 @@ use borrow.Author.Tests.{le-leb, eq-eqb}
 use lib.ListN.{length}
 use Rattle.bytes.specs.Numbers.{Below}
 use Rattle.bytes.specs.Every.{allOf}
-use Rattle.text.specs.Characters.{hexText, hexNumber, decimalText}
-use Rattle.text.specs.Texts.{part}
 use Rattle.bytes.specs.Padding.{padOf}
 use Rattle.bytes.proofs.Every.{either}
+use Rattle.text.specs.Characters.{hexText, hexNumber, decimalText}
+use Rattle.text.specs.Texts.{part}
 use Rattle.text.proofs.Alphabets.{text-length, text-written, number-of-text-fit}
 use Rattle.text.proofs.Notations.{hex}
 use Rattle.blowfish.specs.Cipher.{encipherOf}

@@ -9,24 +9,24 @@ use borrow.Author.Tests.{ltb-true, ltb-false, eqb-true}
 use lib.Dec.{ltb, eqb}
 use lib.ListN.{length, getD}
 use Rattle.bytes.specs.Numbers.{Below}
-use Rattle.text.specs.Characters.{isHex, hexNumber}
 use Rattle.bytes.specs.Every.{allOf}
-use Rattle.text.specs.Texts.{part}
 use Rattle.bytes.proofs.Digits.{take-below}
 use Rattle.bytes.proofs.Every.{either}
+use Rattle.text.specs.Characters.{isHex, hexNumber}
+use Rattle.text.specs.Texts.{part}
 use Rattle.text.proofs.Alphabets.{text-injective}
 use Rattle.text.proofs.Notations.{hex}
 use Rattle.text.proofs.TextsAt.{all-within, all-there}
 use Rattle.crc32.specs.OneChange.{DifferAt}
 use Rattle.crc32.proofs.OneChange.{one-change}
 use Rattle.forms.specs.Order.{demand}
+use Rattle.forms.proofs.OnePlace.{part-before, part-after, part-differs}
 use Rattle.cell_permit.specs.CellPermit.{shipWords, checkOf}
 use Rattle.cell_permit.specs.Line.{isLine, partsOf, keyUnder, recordOf, checked, readWith, givenNumber, readLine}
 use Rattle.cell_permit.specs.OneCharacter.{isAccepted, LineGuarded}
 use Rattle.cell_permit.specs.declared.Line.{Line}
 use Rattle.cell_permit.specs.declared.Line.the-variants.{Refused}
 use Rattle.cell_permit.proofs.GoodLine.{good-line}
-use Rattle.forms.proofs.OnePlace.{part-before, part-after, part-differs}
 use Rattle.cell_permit.proofs.ShipCipher.{ship-words, same-crc}
 
 module _ (n : ℕ) where

@@ -6,9 +6,9 @@ use Prim.Native.Nat.{ℕ, _+_, _≤_}
 use native.Mathlib.Omega.{arith}
 use lib.ListN.{length, length-append}
 use Rattle.bytes.specs.Numbers.{bytesOf}
+use Rattle.bytes.proofs.Digits.{digits-length}
 use Rattle.text.specs.Characters.{hexText, decimalText}
 use Rattle.text.specs.Texts.{width, numeral}
-use Rattle.bytes.proofs.Digits.{digits-length}
 use Rattle.text.proofs.Alphabets.{text-length}
 use Rattle.text.proofs.Notations.{hex, decimal}
 use Rattle.text.proofs.Numerals.{width-at-most, numeral-length}

@@ -10,21 +10,21 @@ use native.Mathlib.Omega.{arith}
 use borrow.Author.Tests.{eqb-true}
 use lib.ListN.{length, getD, drop, length-drop, take-append-drop}
 use lib.Seq.{drop-cons, drop-drop, take-all, getD-drop, getD-take}
-use Rattle.text.specs.Characters.{isDigit, isHex, isPrintable, decimalText, decimalNumber}
 use Rattle.bytes.specs.Every.{allOf}
 use Rattle.bytes.specs.Places.{numberAt}
+use Rattle.bytes.proofs.Places.{part-length}
+use Rattle.text.specs.Characters.{isDigit, isHex, isPrintable, decimalText, decimalNumber}
 use Rattle.text.specs.Texts.{part, allAt}
 use Rattle.text.proofs.Alphabets.{text-of-number, number-below}
 use Rattle.text.proofs.Notations.{decimal}
-use Rattle.bytes.proofs.Places.{part-length}
 use Rattle.text.proofs.TextsAt.{all-within, all-there}
 use Rattle.dates.specs.Calendar.{isDate}
 use Rattle.dates.proofs.Bounds.{both}
 use Rattle.forms.specs.DateText.{isDateAt}
+use Rattle.forms.proofs.NamesAt.{name-text, name-at}
 use Rattle.cell_permit.specs.CellPermit.{comma}
 use Rattle.cell_permit.specs.Line.{commaAt, editionLength, expiryOf}
 use Rattle.cell_permit.specs.LineFields.{LineFields, editionText, lineText, HexPart, AreFields, NoOtherLine}
-use Rattle.forms.proofs.NamesAt.{name-text, name-at}
 use Rattle.cell_permit.proofs.GoodLine.{GoodLine, good-line}
 use Rattle.cell_permit.proofs.ReadFields.{comma-within, leading-all, edition-few}
 use Rattle.cell_permit.proofs.TailRead.{tailOf}

@@ -4,8 +4,8 @@ use mathlib.Core.Path.{_≡_, ap}
 use mathlib.Core.Bool.{true}
 use mathlib.Core.List.{List, _++_}
 use Prim.Native.Nat.{ℕ}
-use Rattle.text.specs.Characters.{isDigit, isHex, isNameCharacter, decimalNumber}
 use Rattle.bytes.specs.Every.{allOf}
+use Rattle.text.specs.Characters.{isDigit, isHex, isNameCharacter, decimalNumber}
 use Rattle.text.specs.Texts.{part}
 use Rattle.dates.specs.Calendar.{isDate}
 use Rattle.forms.specs.DateText.{isDateAt}

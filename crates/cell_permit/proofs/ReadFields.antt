@@ -9,12 +9,12 @@ use native.Mathlib.Omega.{arith}
 use borrow.Author.Tests.{eqb-true, leb-true, leb-false}
 use lib.Dec.{leb}
 use lib.ListN.{length, getD, take, drop, List·getD-eq-default}
-use Rattle.text.specs.Characters.{isDigit, isNameCharacter, isPrintable}
 use Rattle.bytes.specs.Every.{allOf}
 use Rattle.bytes.specs.Places.{numberAt}
-use Rattle.text.specs.Texts.{allAt, decimalAt}
 use Rattle.bytes.specs.declared.numbers.Reading.the-variants.{Number, Wrong}
 use Rattle.bytes.proofs.Every.{and-first, and-second, either, all-more}
+use Rattle.text.specs.Characters.{isDigit, isNameCharacter, isPrintable}
+use Rattle.text.specs.Texts.{allAt, decimalAt}
 use Rattle.text.proofs.TextsAt.{all-at-place}
 use Rattle.text.proofs.NumbersAt.{decimal-number, decimal-wrong, decimal-bound}
 use Rattle.cell_permit.specs.CellPermit.{comma}

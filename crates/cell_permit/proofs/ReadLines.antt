@@ -6,8 +6,8 @@ use mathlib.Core.List.{List}
 use Prim.Native.Nat.{ℕ, _≤_, _<_}
 use borrow.Author.Tests.{le-leb, lt-leb, eq-eqb, ne-eqb}
 use lib.ListN.{length, take}
-use Rattle.text.specs.Characters.{isHex}
 use Rattle.bytes.specs.declared.numbers.Reading.the-variants.{Number, Wrong}
+use Rattle.text.specs.Characters.{isHex}
 use Rattle.text.proofs.TextsAt.{all-within}
 use Rattle.dates.specs.Notice.{daysLeft, noticeOf}
 use Rattle.dates.specs.declared.Notice.{Notice}

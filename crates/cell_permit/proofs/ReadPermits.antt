@@ -5,16 +5,16 @@ use mathlib.Core.Bool.{true, false}
 use mathlib.Core.List.{List}
 use Prim.Native.Nat.{ℕ}
 use native.Mathlib.Omega.{arith}
-use Rattle.text.specs.Characters.{isHex, isNameCharacter}
 use Rattle.bytes.specs.Places.{numberAt}
-use Rattle.text.specs.Texts.{allAt, hexAt}
 use Rattle.bytes.specs.declared.numbers.Reading.the-variants as reading
+use Rattle.text.specs.Characters.{isHex, isNameCharacter}
+use Rattle.text.specs.Texts.{allAt, hexAt}
 use Rattle.text.proofs.NumbersAt.{hex-number, hex-wrong}
 use Rattle.forms.specs.DateText.{isDateAt, dateAt}
+use Rattle.forms.proofs.DateTexts.{date-wrong, date-right, date-same}
 use Rattle.cell_permit.specs.Line.{isPermit}
 use Rattle.cell_permit.specs.LineParts.{permitParts, permitOf}
 use Rattle.cell_permit.specs.declared.Permit.the-variants as permit
-use Rattle.forms.proofs.DateTexts.{date-wrong, date-right, date-same}
 
 module _ (line : List ℕ) where
   pub no-name : allAt isNameCharacter 8 line 0 ≡ false → permit.Wrong ≡ permitOf line

@@ -8,10 +8,10 @@ use native.Mathlib.Nat.{le-of-suc-le-suc, not-suc-le-zero}
 use native.Mathlib.Omega.{arith}
 use borrow.Author.Tests.{le-leb, ne-eqb}
 use lib.ListN.{length, getD}
-use Rattle.text.specs.Characters.{isDigit, isNameCharacter, isPrintable}
 use Rattle.bytes.specs.Every.{allOf}
-use Rattle.text.specs.Texts.{allAt}
 use Rattle.bytes.proofs.Every.{all-first, all-rest}
+use Rattle.text.specs.Characters.{isDigit, isNameCharacter, isPrintable}
+use Rattle.text.specs.Texts.{allAt}
 use Rattle.cell_permit.specs.CellPermit.{comma}
 use Rattle.cell_permit.specs.Line.{leadingDigits, editionLength, isTail}
 use Rattle.cell_permit.proofs.Along.{From, moved, next, rest-there, length-there, first-there, all-there}

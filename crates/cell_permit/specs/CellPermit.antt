@@ -4,14 +4,14 @@ use mathlib.Core.List.{List, [], _∷_, _++_}
 use Prim.Native.Nat.{ℕ}
 use lib.Dec.{leb}
 use Rattle.bytes.specs.Numbers.{bytesOf}
+use Rattle.bytes.specs.Padding.{padOf}
 use Rattle.text.specs.Ascii.{byte, ascii}
 use Rattle.text.specs.Characters.{hexText, decimalText}
 use Rattle.text.specs.Texts.{numeral}
-use Rattle.bytes.specs.Padding.{padOf}
+use Rattle.dates.specs.Calendar.{isDate}
 use Rattle.crc32.specs.Crc32.{crc32Of}
 use Rattle.blowfish.specs.Cipher.{encipherOf}
 use Rattle.blowfish.specs.Schedule.{schedule}
-use Rattle.dates.specs.Calendar.{isDate}
 use Rattle.forms.specs.Order.{demand}
 use Rattle.forms.specs.Identifiers.{isHwId, isCellName, isCellKey, isServerId, hwId6}
 use Rattle.forms.specs.Output.{Output, text, refusal}

@@ -4,17 +4,17 @@ use mathlib.Core.List.{List, [], _∷_}
 use Prim.Native.Nat.{ℕ, zero, suc, _+_, _-_}
 use lib.Dec.{leb, eqb}
 use lib.ListN.{length, getD, drop}
-use Rattle.text.specs.Ascii.{byte}
-use Rattle.text.specs.Characters.{between, isDigit, isHex, isNameCharacter, isPrintable, hexNumber, decimalNumber}
 use Rattle.bytes.specs.Places.{numberAt}
-use Rattle.text.specs.Texts.{part, allAt}
 use Rattle.bytes.specs.Padding.{unpadOf}
 use Rattle.bytes.specs.declared.numbers.Reading.{Reading}
 use Rattle.bytes.specs.declared.numbers.Reading.the-variants.{Number, Wrong}
-use Rattle.blowfish.specs.Cipher.{decipherOf}
+use Rattle.text.specs.Ascii.{byte}
+use Rattle.text.specs.Characters.{between, isDigit, isHex, isNameCharacter, isPrintable, hexNumber, decimalNumber}
+use Rattle.text.specs.Texts.{part, allAt}
 use Rattle.dates.specs.Calendar.{isDate}
 use Rattle.dates.specs.Notice.{daysLeft, isDays, noticeOf}
 use Rattle.dates.specs.Notice as notice
+use Rattle.blowfish.specs.Cipher.{decipherOf}
 use Rattle.forms.specs.Order.{demand}
 use Rattle.forms.specs.Identifiers.{isHwId}
 use Rattle.forms.specs.DateText.{isDateAt}

@@ -5,8 +5,8 @@ use mathlib.Core.List.{List, [], _∷_, _++_}
 use Prim.Native.Nat.{ℕ, zero, suc, _≤_}
 use lib.ListN.{length}
 use Rattle.bytes.specs.Numbers.{bytesOf}
-use Rattle.text.specs.Characters.{isHex, isPrintable, hexNumber, decimalText}
 use Rattle.bytes.specs.Every.{allOf}
+use Rattle.text.specs.Characters.{isHex, isPrintable, hexNumber, decimalText}
 use Rattle.text.specs.Texts.{numeral}
 use Rattle.dates.specs.Calendar.{isDate}
 use Rattle.forms.specs.Identifiers.{isCellName, isServerId}

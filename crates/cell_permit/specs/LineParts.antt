@@ -4,9 +4,9 @@ use mathlib.Core.List.{List}
 use Prim.Native.Nat.{ℕ, _+_, _-_}
 use lib.Dec.{eqb}
 use lib.ListN.{length, getD}
+use Rattle.bytes.specs.Places.{numberAt}
 use Rattle.text.specs.Ascii.{byte}
 use Rattle.text.specs.Characters.{between, isNameCharacter, isPrintable, hexNumber, decimalNumber}
-use Rattle.bytes.specs.Places.{numberAt}
 use Rattle.text.specs.Texts.{part, allAt}
 use Rattle.cell_permit.specs.Line.{expiryOf, isPermit, commaAt, editionLength, isTail}
 use Rattle.cell_permit.specs.declared.PermitParts.{PermitParts}

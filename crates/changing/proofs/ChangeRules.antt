@@ -7,10 +7,10 @@ use mathlib.Core.Option.{none, some}
 use Prim.Native.Nat.{ℕ, _≤_, _<_}
 use borrow.Author.Tests.{lt-ltb, le-ltb}
 use lib.ListN.{length}
+use Rattle.dates.specs.Notice.{isDays}
 use Rattle.forms.specs.Identifiers.{isCellName}
 use Rattle.tenants.specs.declared.Held.{Held}
 use Rattle.tenants.specs.Cells.{cellOf}
-use Rattle.dates.specs.Notice.{isDays}
 use Rattle.tenants.specs.Rules.{Change, enters, withdraws, sets, refuses, changeNumber, isTenant, isHeld, isSome, entering, withdrawing, settingDays}
 use Rattle.layout.specs.Layout.{isBook, ownIn}
 use Rattle.changing.specs.Changing.{entry, withdrawal, newDays, bytesAfter}

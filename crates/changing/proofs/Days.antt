@@ -8,8 +8,8 @@ use native.Mathlib.Omega.{arith}
 use lib.ListN.{length, take, drop, getD, set, length-append, take-append-drop}
 use lib.Seq.{drop-cons, set-at, length-take-le}
 use Rattle.bytes.specs.Numbers.{digits, bytesOf}
-use Rattle.text.specs.Texts.{placed}
 use Rattle.bytes.proofs.Digits.{digits-length}
+use Rattle.text.specs.Texts.{placed}
 use Rattle.text.proofs.PlacedTexts.{placed-none, placed-first}
 use Rattle.tenants.specs.declared.Setting.{Setting}
 use Rattle.tenants.specs.Alone.{withDays}

@@ -6,10 +6,10 @@ use mathlib.Core.List.{List}
 use Prim.Native.Nat.{ℕ, _+_, _≤_, _<_}
 use native.Mathlib.Omega.{arith}
 use lib.ListN.{length, set}
+use Rattle.dates.specs.Notice.{isDays}
 use Rattle.forms.specs.Identifiers.{isCellName}
 use Rattle.tenants.specs.declared.Held.{Held}
 use Rattle.tenants.specs.declared.Setting.{Setting}
-use Rattle.dates.specs.Notice.{isDays}
 use Rattle.tenants.specs.Rules.{enters, withdraws, sets, isHeld}
 use Rattle.tenants.specs.Together.{inBook, fullName, ownOf}
 use Rattle.tenants.proofs.Ranges.{tenant-is, days-below, name-below, held-below}

@@ -5,10 +5,10 @@ use mathlib.Core.Bool.{Bool, true, false, cond}
 use mathlib.Core.List.{List}
 use Prim.Native.Nat.{ℕ, _<_, _^_}
 use native.Mathlib.Omega.{arith}
-use Rattle.text.specs.Characters.{isDigit, decimalNumber}
-use Rattle.text.specs.Texts.{part, allAt, decimalAt}
 use Rattle.bytes.specs.declared.numbers.Reading.the-variants.{Number, Wrong}
 use Rattle.bytes.proofs.Every.{and-first}
+use Rattle.text.specs.Characters.{isDigit, decimalNumber}
+use Rattle.text.specs.Texts.{part, allAt, decimalAt}
 use Rattle.text.proofs.NumbersAt.{decimal-number, decimal-wrong, decimal-bound}
 use Rattle.dates.specs.Calendar.{isDate}
 use Rattle.forms.specs.DateText.{isDateAt, dateAt}

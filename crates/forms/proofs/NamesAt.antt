@@ -7,12 +7,12 @@ use Prim.Native.Nat.{ℕ, _+_, _^_, _≤_, _<_}
 use borrow.Author.Tests.{lt-ltb}
 use lib.ListN.{length}
 use Rattle.bytes.specs.Numbers.{Below, bytesOf, bytesNumber}
-use Rattle.text.specs.Characters.{isNameCharacter}
 use Rattle.bytes.specs.Places.{numberAt}
-use Rattle.text.specs.Texts.{part, allAt}
 use Rattle.bytes.proofs.Digits.{digits-value, value-below}
-use Rattle.text.proofs.NameTexts.{names-below}
 use Rattle.bytes.proofs.Places.{number-within, part-length}
+use Rattle.text.specs.Characters.{isNameCharacter}
+use Rattle.text.specs.Texts.{part, allAt}
+use Rattle.text.proofs.NameTexts.{names-below}
 use Rattle.text.proofs.TextsAt.{all-within, all-there}
 use Rattle.forms.specs.Identifiers.{isText}
 use Rattle.forms.specs.Laws.{NameAt}

@@ -8,8 +8,8 @@ use borrow.Author.Tests.{ltb-true, ltb-false}
 use lib.Dec.{ltb}
 use lib.ListN.{length, getD, drop, length-drop, List·getD-eq-default}
 use lib.Seq.{ext-getD, getD-take, getD-drop, length-take-le}
-use Rattle.text.specs.Texts.{part}
 use Rattle.bytes.proofs.Every.{either}
+use Rattle.text.specs.Texts.{part}
 use Rattle.crc32.specs.OneChange.{DifferAt}
 
 module _ (n : ℕ) (s : List ℕ) (at : ℕ) where

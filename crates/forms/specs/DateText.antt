@@ -2,10 +2,10 @@
 use mathlib.Core.Bool.{Bool, cond, _&&_}
 use mathlib.Core.List.{List}
 use Prim.Native.Nat.{ℕ}
-use Rattle.text.specs.Characters.{isDigit, decimalNumber}
-use Rattle.text.specs.Texts.{part, allAt}
 use Rattle.bytes.specs.declared.numbers.Reading.{Reading}
 use Rattle.bytes.specs.declared.numbers.Reading.the-variants.{Number, Wrong}
+use Rattle.text.specs.Characters.{isDigit, decimalNumber}
+use Rattle.text.specs.Texts.{part, allAt}
 use Rattle.dates.specs.Calendar.{isDate}
 
 -- eight digits at a place are a date

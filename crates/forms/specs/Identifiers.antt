@@ -5,8 +5,8 @@ use Prim.Native.Nat.{ℕ, _^_}
 use lib.Dec.{ltb}
 use lib.ListN.{take}
 use Rattle.bytes.specs.Numbers.{bytesOf}
-use Rattle.text.specs.Characters.{isUpperHex, isNameCharacter}
 use Rattle.bytes.specs.Every.{allOf}
+use Rattle.text.specs.Characters.{isUpperHex, isNameCharacter}
 
 -- x is the number of n bytes that all pass the test
 unfoldable pub isText : (ℕ → Bool) → ℕ → ℕ → Bool

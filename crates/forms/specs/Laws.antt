@@ -3,10 +3,10 @@ use mathlib.Core.Path.{_≡_}
 use mathlib.Core.Bool.{Bool, true, false}
 use mathlib.Core.List.{List}
 use Prim.Native.Nat.{ℕ, _^_, _<_}
-use Rattle.text.specs.Characters.{isNameCharacter}
 use Rattle.bytes.specs.Places.{numberAt}
-use Rattle.text.specs.Texts.{allAt}
 use Rattle.bytes.specs.declared.numbers.Reading.the-variants.{Number, Wrong}
+use Rattle.text.specs.Characters.{isNameCharacter}
+use Rattle.text.specs.Texts.{allAt}
 use Rattle.forms.specs.Identifiers.{isText}
 use Rattle.forms.specs.Output.{Output, refusal, Answered}
 use Rattle.forms.specs.DateText.{isDateAt, dateAt}

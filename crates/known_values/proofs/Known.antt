@@ -1,15 +1,15 @@
 -- Every row of the table of known values holds of the definitions. Assumes nothing.
 use mathlib.Core.Path.{refl}
 use lib.IntN.{pos}
+use Rattle.bytes.specs.Numbers.{digits, value}
+use Rattle.bytes.specs.Every.{allOf}
+use Rattle.text.specs.Characters.{isDigit, isUpperHex, hexCharacter}
 use Rattle.dates.specs.Calendar.{year, month, day, isLeap, monthLengths, daysIn, within, isDate, multiplesBelow, daysBeforeYear, sum, daysBeforeMonth, dayNumber}
 use Rattle.dates.specs.Notice.{daysLeft, noticeOf}
-use Rattle.bytes.specs.Numbers.{digits, value}
-use Rattle.text.specs.Characters.{isDigit, isUpperHex, hexCharacter}
-use Rattle.bytes.specs.Every.{allOf}
+use Rattle.dates.proofs.Left.{same-day}
 use Rattle.forms.specs.Identifiers.{isText, hwId6}
 use Rattle.user_permit.specs.UserPermit.{mIdPart}
 use Rattle.cell_permit.specs.Line.{givenNumber}
-use Rattle.dates.proofs.Left.{same-day}
 use Rattle.book.proofs.FirstCell.{first-cell}
 use Rattle.known_values.specs.Rows.{Holds, EachHolds, rows, sameDay}
 

@@ -7,14 +7,14 @@ use mathlib.Core.List.{List, [], _∷_}
 use lib.IntN.{ℤ, pos, negℤ}
 use lib.ListN.{getD}
 use Rattle.bytes.specs.Numbers.{bytesNumber}
-use Rattle.text.specs.Ascii.{ascii}
 use Rattle.bytes.specs.Places.{numberAt}
+use Rattle.text.specs.Ascii.{ascii}
 use Rattle.dates.specs.Calendar.{isDate}
 use Rattle.dates.specs.Notice.{daysLeft, noticeOf, noticeNumber}
 use Rattle.forms.specs.Identifiers.{hwId6}
+use Rattle.forms.specs.Output.{text}
 use Rattle.user_permit.specs.UserPermit.{mIdPart}
 use Rattle.cell_permit.specs.Line.{givenNumber}
-use Rattle.forms.specs.Output.{text}
 use Rattle.tenants.specs.declared.Held.{Held}
 use Rattle.tenants.specs.Rules.{isTenant, isHeld}
 use Rattle.opening.specs.Opening.{opened}

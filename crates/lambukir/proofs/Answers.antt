@@ -6,12 +6,12 @@ use mathlib.Core.List.{List}
 use Prim.Native.Nat.{ℕ}
 use Rattle.blowfish.specs.Schedule.{isKey, schedule, keyNumber, scheduled}
 use Rattle.blowfish.proofs.Keys.{done-is-key, refused-is-none}
-use Rattle.lambukir.specs.declared.Block.{Block}
-use Rattle.lambukir.specs.Blocks.{underKey}
 use Rattle.cell_permit.specs.Line.{lineNumber}
 use Rattle.cell_permit.specs.declared.Line.{Line}
 use Rattle.cell_permit.specs.declared.Line.the-variants as line
 use Rattle.cell_permit.specs.declared.Record.{Record}
+use Rattle.lambukir.specs.declared.Block.{Block}
+use Rattle.lambukir.specs.Blocks.{underKey}
 use Rattle.lambukir.specs.declared.permits.LineRead.{LineRead}
 use Rattle.lambukir.specs.Permits.{lineRead}
 

@@ -3,17 +3,17 @@ use mathlib.Core.List.{List}
 use Prim.Native.Nat.{ℕ, _-_}
 use lib.ListN.{length}
 use Rattle.forms.specs.Output.{writtenNumber}
-use Rattle.user_permit.specs.UserPermit.{userPermitNumber}
-use Rattle.cell_permit.specs.Line.{commentAt, lineNumber}
 use Rattle.forms.specs.Output.{writtenLength}
-use Rattle.user_permit.specs.Answers.{shipHwId, shipMId}
-use Rattle.cell_permit.specs.Answers.{lineValues}
 use Rattle.forms.specs.declared.Written.{Written}
+use Rattle.user_permit.specs.UserPermit.{userPermitNumber}
+use Rattle.user_permit.specs.Answers.{shipHwId, shipMId}
+use Rattle.user_permit.specs.declared.UserPermit.{UserPermit}
+use Rattle.cell_permit.specs.Line.{commentAt, lineNumber}
+use Rattle.cell_permit.specs.Answers.{lineValues}
 use Rattle.cell_permit.specs.declared.Cell.{Cell}
 use Rattle.cell_permit.specs.declared.Line.{Line}
 use Rattle.cell_permit.specs.declared.CommentPlace.{CommentPlace}
 use Rattle.cell_permit.specs.declared.CommentPlace.the-variants as place
-use Rattle.user_permit.specs.declared.UserPermit.{UserPermit}
 use Rattle.lambukir.specs.declared.permits.UserPermitRead.{UserPermitRead}
 use Rattle.lambukir.specs.declared.permits.LineRead.{LineRead}
 use Rattle.lambukir.specs.declared.permits.TextWritten.{TextWritten}

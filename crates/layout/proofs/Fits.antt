@@ -8,12 +8,12 @@ use native.Mathlib.Omega.{arith}
 use borrow.Author.Tests.{eqb-true, leb-true, ltb-true}
 use lib.Dec.{leb, eqb}
 use lib.ListN.{length}
-use Rattle.text.specs.Characters.{isNameCharacter}
 use Rattle.bytes.proofs.Every.{and-first, and-second}
+use Rattle.text.specs.Characters.{isNameCharacter}
+use Rattle.dates.specs.Notice.{isDays}
 use Rattle.forms.specs.Identifiers.{isCellName, isCellKey, isServerId}
 use Rattle.forms.proofs.Fits.{text-fits}
 use Rattle.tenants.specs.declared.Setting.{Setting}
-use Rattle.dates.specs.Notice.{isDays}
 use Rattle.tenants.specs.Rules.{isTenant, isHeld}
 use Rattle.tenants.specs.Cells.{startsAbove}
 use Rattle.tenants.proofs.Ranges.{days-below}

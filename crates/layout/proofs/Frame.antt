@@ -10,9 +10,9 @@ use lib.ListN.{length, getD, take, drop, length-append, length-drop, List·getD-
 use lib.Seq.{drop-cons, take-all, getD-append-add, split-at, length-take-le}
 use Rattle.bytes.specs.Numbers.{digits, Below, bytesOf}
 use Rattle.bytes.specs.Places.{numberAt}
-use Rattle.text.specs.Texts.{part}
 use Rattle.bytes.proofs.Digits.{digits-length}
 use Rattle.bytes.proofs.Places.{bytes-at}
+use Rattle.text.specs.Texts.{part}
 use Rattle.tenants.specs.declared.Setting.{Setting}
 use Rattle.tenants.specs.Together.{BookRecord, Book}
 use Rattle.layout.specs.Layout.{

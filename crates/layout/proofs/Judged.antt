@@ -11,8 +11,8 @@ use lib.ListN.{length, getD, drop}
 use Rattle.bytes.specs.Numbers.{Below}
 use Rattle.bytes.specs.Every.{allOf}
 use Rattle.bytes.specs.Places.{numberAt}
-use Rattle.text.specs.Texts.{sameText}
 use Rattle.bytes.proofs.Every.{and-first, and-second, either, same-tests}
+use Rattle.text.specs.Texts.{sameText}
 use Rattle.text.proofs.SameTexts.{same-refl}
 use Rattle.tenants.specs.Cells.{startsAbove}
 use Rattle.tenants.specs.Together.{fullName, areSettings, quotaSum, areRecords, withinQuotas, isGood}

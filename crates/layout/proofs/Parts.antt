@@ -9,8 +9,8 @@ use lib.ListN.{length, getD, take, drop}
 use lib.Seq.{take-take, drop-drop}
 use Rattle.bytes.specs.Numbers.{bytesNumber}
 use Rattle.bytes.specs.Places.{numberAt}
-use Rattle.text.specs.Texts.{part}
 use Rattle.bytes.proofs.Places.{number-within, part-length}
+use Rattle.text.specs.Texts.{part}
 use Rattle.layout.proofs.Told.{byte-number}
 
 -- a part that is lent from one place to another

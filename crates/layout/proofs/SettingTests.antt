@@ -12,9 +12,9 @@ use Rattle.bytes.specs.Numbers.{Below}
 use Rattle.bytes.specs.Places.{numberAt}
 use Rattle.bytes.proofs.Every.{and-first, and-second}
 use Rattle.bytes.proofs.Places.{number-at-below}
+use Rattle.dates.specs.Notice.{isDays}
 use Rattle.forms.specs.Identifiers.{isServerId}
 use Rattle.tenants.specs.declared.Setting.{Setting}
-use Rattle.dates.specs.Notice.{isDays}
 use Rattle.tenants.specs.Together.{isSetting, areSettings}
 use Rattle.layout.specs.Layout.{settingSize, settingPlace, recordsPlace, settingAt, eachFrom}
 use Rattle.layout.specs.Judging.{isZero, settingPart, allFrom, settingTest, settingsTest}

@@ -9,11 +9,11 @@ use borrow.Author.Tests.{lt-ltb, eqb-true, eqb-false, eq-eqb}
 use lib.Dec.{leb, ltb, eqb}
 use lib.ListN.{length, getD}
 use Rattle.bytes.specs.Numbers.{Below, digits}
-use Rattle.text.specs.Characters.{isDigit, isNameCharacter}
 use Rattle.bytes.specs.Every.{allOf}
 use Rattle.bytes.specs.Places.{numberAt}
 use Rattle.bytes.proofs.Every.{and-first, and-second, either}
 use Rattle.bytes.proofs.Places.{number-join, number-at-below}
+use Rattle.text.specs.Characters.{isDigit, isNameCharacter}
 use Rattle.forms.specs.Identifiers.{isText, isCellName}
 use Rattle.tenants.specs.Cells.{startsAbove}
 use Rattle.tenants.specs.Rules.{isTenant, isHeld}

@@ -8,8 +8,8 @@ use lib.ListN.{length, getD, take}
 use lib.Seq.{drop-cons}
 use Rattle.bytes.specs.Numbers.{digits, Below, bytesOf}
 use Rattle.bytes.specs.Places.{numberAt}
-use Rattle.text.specs.Texts.{part}
 use Rattle.bytes.proofs.Places.{bytes-at}
+use Rattle.text.specs.Texts.{part}
 use Rattle.layout.specs.Layout.{zeros, settingBytes, recordBytes, settingPlace, recordPlace, settingAt, recordAt}
 use Rattle.layout.proofs.Each.{meet}
 

@@ -6,8 +6,8 @@ use lib.Dec.{leb, ltb, eqb}
 use lib.ListN.{getD}
 use Rattle.bytes.specs.Places.{numberAt}
 use Rattle.text.specs.Texts.{part}
-use Rattle.forms.specs.Identifiers.{isCellName, isServerId}
 use Rattle.dates.specs.Notice.{isDays}
+use Rattle.forms.specs.Identifiers.{isCellName, isServerId}
 use Rattle.tenants.specs.Rules.{isTenant}
 use Rattle.tenants.specs.Together.{fullName, quotaSum}
 use Rattle.layout.specs.Layout.{settingSize, settingPlace, recordSize, recordPlace, settingAt, eachFrom}

@@ -9,10 +9,10 @@ use borrow.Author.Tests.{eqb-true, eq-eqb, ne-eqb, le-leb, lt-leb}
 use lib.Dec.{eqb, leb}
 use lib.ListN.{length, getD}
 use lib.Seq.{take-all}
-use Rattle.text.specs.Characters.{isNameCharacter}
 use Rattle.bytes.specs.Every.{allOf}
-use Rattle.text.specs.Texts.{allAt}
 use Rattle.bytes.proofs.Every.{and-first}
+use Rattle.text.specs.Characters.{isNameCharacter}
+use Rattle.text.specs.Texts.{allAt}
 use Rattle.text.proofs.TextsAt.{all-inside}
 use Rattle.tenants.specs.Together.{quotaSum}
 use Rattle.layout.specs.Layout.{eachFrom}

@@ -8,17 +8,17 @@ use native.Mathlib.Omega.{arith}
 use borrow.Author.Tests.{leb-true, eqb-true}
 use lib.Dec.{eqb}
 use lib.ListN.{length, getD, take, drop, take-append-drop}
-use Rattle.text.specs.Characters.{isNameCharacter}
 use Rattle.bytes.specs.Every.{allOf}
 use Rattle.bytes.specs.Places.{numberAt}
-use Rattle.text.specs.Texts.{part}
 use Rattle.bytes.proofs.Every.{and-first, and-second}
+use Rattle.text.specs.Characters.{isNameCharacter}
+use Rattle.text.specs.Texts.{part}
 use Rattle.text.proofs.TextsAt.{all-append, all-at-place}
+use Rattle.dates.specs.Notice.{isDays}
 use Rattle.forms.specs.Order.{demand}
 use Rattle.forms.specs.Identifiers.{isServerId}
 use Rattle.forms.specs.Output.{text, refusal}
 use Rattle.forms.proofs.NamesAt.{name-at}
-use Rattle.dates.specs.Notice.{isDays}
 use Rattle.tenants.specs.Together.{cellsOf, noSetting, isSetting, quotaSum, isGood}
 use Rattle.tenants.proofs.Goodness.{Good, facts-good}
 use Rattle.layout.specs.Layout.{bookSize, bookBytes}

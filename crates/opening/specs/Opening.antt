@@ -5,9 +5,9 @@ use mathlib.Core.List.{List, []}
 use Prim.Native.Nat.{ℕ, _*_}
 use lib.Dec.{leb, eqb}
 use lib.ListN.{length, getD}
-use Rattle.text.specs.Characters.{isNameCharacter}
 use Rattle.bytes.specs.Every.{allOf}
 use Rattle.bytes.specs.Places.{numberAt}
+use Rattle.text.specs.Characters.{isNameCharacter}
 use Rattle.forms.specs.Order.{demand}
 use Rattle.forms.specs.Output.{Output, text, refusal}
 use Rattle.tenants.specs.declared.Setting.{Setting}

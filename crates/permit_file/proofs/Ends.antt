@@ -8,8 +8,8 @@ use native.Mathlib.Omega.{arith}
 use borrow.Author.Tests.{eq-eqb, ne-eqb}
 use lib.ListN.{length, drop, take}
 use lib.Seq.{length-take-le}
-use Rattle.text.specs.Texts.{sameText, standsAt}
 use Rattle.bytes.proofs.Every.{either}
+use Rattle.text.specs.Texts.{sameText, standsAt}
 use Rattle.text.proofs.SameTexts.{same-true}
 use Rattle.permit_file.specs.File.{lineLength, lineEnds, lineAt, ecs, endsAt}
 use Rattle.permit_file.proofs.Lines.{line-within}

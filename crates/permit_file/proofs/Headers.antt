@@ -7,9 +7,9 @@ use Prim.Native.Nat.{ℕ, _≤_}
 use native.Mathlib.Omega.{arith}
 use lib.Dec.{ltb, eqb}
 use lib.ListN.{length, getD, length-take, length-drop}
-use Rattle.text.specs.Texts.{part, standsAt, decimalAt}
 use Rattle.bytes.specs.declared.numbers.Reading.the-variants.{Number, Wrong}
 use Rattle.bytes.proofs.Every.{and-second}
+use Rattle.text.specs.Texts.{part, standsAt, decimalAt}
 use Rattle.text.proofs.NumbersAt.{decimal-number, decimal-wrong}
 use Rattle.text.proofs.SameTexts.{same-true}
 use Rattle.forms.specs.DateText.{isDateAt}

@@ -1,9 +1,9 @@
 -- The numbers that stand for answers which C cannot take: for the comparisons alone.
 use mathlib.Core.Bool.{cond}
-use Rattle.dates.specs.declared.DaysLeft.{DaysLeft}
-use Rattle.dates.specs.declared.DaysLeft.the-variants.{Passed, Left}
 use Rattle.bytes.specs.declared.numbers.Reading.{Reading}
 use Rattle.bytes.specs.Readings.{isRead, valueRead}
+use Rattle.dates.specs.declared.DaysLeft.{DaysLeft}
+use Rattle.dates.specs.declared.DaysLeft.the-variants.{Passed, Left}
 use Rattle.probe.specs.declared.ProbeDaysLeft.{ProbeDaysLeft}
 use Rattle.probe.specs.declared.ProbeUnpadded.{ProbeUnpadded}
 

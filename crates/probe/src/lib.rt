@@ -1,14 +1,14 @@
 // What tests/ and bench/ reach of the leaf crates beside the C interface. Nothing that is shipped uses it.
 ghost use mathlib.Core.Path.{_≡_};
 ghost use Prim.Native.Nat.{_%_};
-ghost use Rattle.text.specs.Characters.{isDigit, isHex, isNameCharacter, hexValue, hexCharacter, digitValue, digitCharacter};
 ghost use Rattle.bytes.specs.Numbers.{bytesOf};
 ghost use Rattle.bytes.specs.Places.{numberAt};
 ghost use Rattle.bytes.specs.Padding.{padOf, unpadOf};
-ghost use Rattle.blowfish.specs.Cipher.{encipherOf, decipherOf};
-ghost use Rattle.blowfish.specs.Schedule.{keyNumber, scheduled};
+ghost use Rattle.text.specs.Characters.{isDigit, isHex, isNameCharacter, hexValue, hexCharacter, digitValue, digitCharacter};
 ghost use Rattle.dates.specs.Calendar.{isDate, dayNumber};
 ghost use Rattle.dates.specs.Notice.{daysLeft, leftOf, noticeOf, noticeNumber};
+ghost use Rattle.blowfish.specs.Cipher.{encipherOf, decipherOf};
+ghost use Rattle.blowfish.specs.Schedule.{keyNumber, scheduled};
 ghost use Rattle.probe.specs.Forms.{daysForm, unpaddedForm};
 
 #[repr(C)]

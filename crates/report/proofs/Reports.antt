@@ -8,8 +8,8 @@ use native.Mathlib.Omega.{arith}
 use borrow.Author.Tests.{leb-true, leb-false, eqb-true, eqb-false, le-leb, lt-leb, eq-eqb, ne-eqb}
 use lib.Dec.{leb, eqb}
 use lib.ListN.{length, length-append, length-drop}
-use Rattle.text.specs.Texts.{width, placed}
 use Rattle.bytes.proofs.Every.{either}
+use Rattle.text.specs.Texts.{width, placed}
 use Rattle.text.proofs.Numerals.{numeral-length, width-at-most}
 use Rattle.text.proofs.PlacedTexts.{placed-start}
 use Rattle.forms.specs.Output.{text, refusal, writtenOf, lentAfter}

@@ -9,17 +9,17 @@ use native.Mathlib.Omega.{arith}
 use borrow.Author.Tests.{leb-true, ltb-true}
 use lib.Dec.{leb, ltb, eqb}
 use lib.ListN.{length, drop, length-append}
-use Rattle.text.specs.Texts.{part, width}
 use Rattle.bytes.proofs.Digits.{digits-length}
 use Rattle.bytes.proofs.Every.{either}
-use Rattle.text.proofs.Numerals.{width-at-most, numeral-length}
-use Rattle.forms.specs.Order.{demand}
 use Rattle.bytes.specs.declared.numbers.Reading.{Reading}
 use Rattle.bytes.specs.declared.numbers.Reading.the-variants.{Number, Wrong}
+use Rattle.text.specs.Texts.{part, width}
+use Rattle.text.proofs.Numerals.{width-at-most, numeral-length}
 use Rattle.dates.specs.Notice.{daysLeft, noticeOf}
 use Rattle.dates.specs.Notice as notice
 use Rattle.dates.specs.declared.Notice.{Notice}
 use Rattle.dates.specs.declared.Notice.the-variants.{Current, Soon, Expired}
+use Rattle.forms.specs.Order.{demand}
 use Rattle.cell_permit.specs.CellPermit.{checkOf}
 use Rattle.cell_permit.specs.Line.{lineNumber, readWith, checked, recordOf, keyUnder, partsOf, isLine}
 use Rattle.cell_permit.specs.declared.Line.{Line}

@@ -8,10 +8,10 @@ use native.Mathlib.Omega.{arith}
 use borrow.Author.Tests.{le-leb, lt-leb, ne-eqb, eq-eqb}
 use lib.Dec.{eqb}
 use lib.ListN.{length, getD, length-take, length-drop}
-use Rattle.text.specs.Characters.{isDigit}
-use Rattle.text.specs.Texts.{part, allAt, standsAt, decimalAt}
 use Rattle.bytes.specs.declared.numbers.Reading.the-variants.{Number, Wrong}
 use Rattle.bytes.proofs.Every.{and-first, and-second}
+use Rattle.text.specs.Characters.{isDigit}
+use Rattle.text.specs.Texts.{part, allAt, standsAt, decimalAt}
 use Rattle.text.proofs.NumbersAt.{decimal-number, decimal-wrong, decimal-bound}
 use Rattle.text.proofs.SameTexts.{same-true, stands-beyond}
 use Rattle.cell_permit.specs.CellPermit.{lineEnd}

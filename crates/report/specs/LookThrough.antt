@@ -5,9 +5,9 @@ use Prim.Native.Nat.{ℕ, zero, suc, _+_, _*_}
 use lib.Dec.{leb, eqb}
 use lib.ListN.{length, getD, drop}
 use Rattle.bytes.specs.Numbers.{bytesOf}
+use Rattle.bytes.specs.Places.{numberAt}
 use Rattle.text.specs.Ascii.{byte, ascii}
 use Rattle.text.specs.Characters.{isDigit, decimalNumber}
-use Rattle.bytes.specs.Places.{numberAt}
 use Rattle.text.specs.Texts.{part, allAt, standsAt, numeral}
 use Rattle.forms.specs.Order.{demand}
 use Rattle.forms.specs.Output.{Output, text, refusal}

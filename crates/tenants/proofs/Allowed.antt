@@ -5,11 +5,11 @@ use mathlib.Core.Bool.{Bool, true, false, _||_}
 use Prim.Native.Nat.{ℕ}
 use lib.Dec.{ltb}
 use lib.ListN.{length}
+use Rattle.dates.specs.Notice.{isDays}
 use Rattle.forms.specs.Order.{demand}
 use Rattle.forms.specs.Identifiers.{isCellName}
 use Rattle.tenants.specs.declared.Held.{Held}
 use Rattle.tenants.specs.Cells.{cellOf}
-use Rattle.dates.specs.Notice.{isDays}
 use Rattle.tenants.specs.Rules.{Own, Change, enters, withdraws, sets, nothing, refuses, isTenant, isHeld, isSome, entering, withdrawing, settingDays}
 use Rattle.tenants.specs.Calls.{Call, enter, withdraw, setDays, askEdition, issue, check, changeOf}
 

@@ -8,11 +8,11 @@ use native.Mathlib.Omega.{arith}
 use lib.ListN.{length, getD, set, length-set}
 use lib.Seq.{getD-set-same, getD-set-other}
 use Rattle.bytes.proofs.Every.{and-second}
+use Rattle.dates.specs.Notice.{isDays}
 use Rattle.forms.specs.Identifiers.{isServerId}
 use Rattle.tenants.specs.declared.Held.{Held}
 use Rattle.tenants.specs.declared.Setting.{Setting}
 use Rattle.tenants.specs.Cells.{entered, withdrawn}
-use Rattle.dates.specs.Notice.{isDays}
 use Rattle.tenants.specs.Rules.{Change, enters, withdraws, sets, nothing, refuses, isTenant}
 use Rattle.tenants.specs.Calls.{Call, changeOf}
 use Rattle.tenants.specs.Alone.{withDays}

@@ -6,12 +6,12 @@ use Prim.Native.Nat.{ℕ, _+_, _*_, _/_, _%_, _^_, _≤_, _<_}
 use native.Mathlib.Omega.{arith}
 use borrow.Author.Tests.{leb-true, le-leb, lt-leb, ltb-true, lt-ltb}
 use lib.Dec.{leb}
-use Rattle.text.specs.Characters.{isNameCharacter}
 use Rattle.bytes.proofs.Every.{and-first, and-second, either, same-tests}
+use Rattle.text.specs.Characters.{isNameCharacter}
+use Rattle.dates.specs.Notice.{isDays}
 use Rattle.forms.specs.Identifiers.{isCellName, isCellKey}
 use Rattle.forms.proofs.Fits.{text-fits}
 use Rattle.tenants.specs.declared.Held.{Held}
-use Rattle.dates.specs.Notice.{isDays}
 use Rattle.tenants.specs.Rules.{isTenant, isHeld}
 use Rattle.tenants.specs.Together.{inBook, cellIn, BookRecord, names, tenantOf, isRecord}
 

@@ -9,16 +9,16 @@ use Rattle.dates.specs.Calendar.{isDate}
 use Rattle.dates.specs.Notice.{isDays}
 use Rattle.forms.specs.Order.{demand}
 use Rattle.forms.specs.Identifiers.{isHwId, isCellName, isCellKey}
+use Rattle.forms.specs.Output.{Output, text, refusal}
 use Rattle.user_permit.specs.Register.{isRegister}
 use Rattle.user_permit.specs.UserPermit.{readPermit}
+use Rattle.user_permit.specs.declared.UserPermit.{UserPermit}
+use Rattle.user_permit.specs.declared.UserPermit.the-variants as user-permit
 use Rattle.cell_permit.specs.CellPermit.{shipWords, lineOf, lineEnd}
 use Rattle.cell_permit.specs.Line.{readWith}
-use Rattle.forms.specs.Output.{Output, text, refusal}
 use Rattle.cell_permit.specs.declared.Cell.{Cell}
 use Rattle.cell_permit.specs.declared.Line.{Line}
 use Rattle.cell_permit.specs.declared.Line.the-variants as of-line
-use Rattle.user_permit.specs.declared.UserPermit.{UserPermit}
-use Rattle.user_permit.specs.declared.UserPermit.the-variants as user-permit
 use Rattle.tenants.specs.declared.Held.{Held}
 use Rattle.tenants.specs.declared.Setting.{Setting}
 use Rattle.tenants.specs.declared.Asked.{Asked}

@@ -4,11 +4,11 @@ use mathlib.Core.List.{List, [], _∷_}
 use Prim.Native.Nat.{ℕ, suc, _+_, _*_, _/_, _%_}
 use lib.Dec.{leb, eqb}
 use lib.ListN.{length, getD, set}
+use Rattle.dates.specs.Notice.{isDays}
 use Rattle.forms.specs.Identifiers.{isServerId}
 use Rattle.tenants.specs.declared.Held.{Held}
 use Rattle.tenants.specs.declared.Setting.{Setting}
 use Rattle.tenants.specs.Cells.{entered, withdrawn, startsAbove}
-use Rattle.dates.specs.Notice.{isDays}
 use Rattle.tenants.specs.Rules.{Own, Change, enters, withdraws, sets, nothing, refuses, isTenant, isHeld}
 use Rattle.tenants.specs.Alone.{withDays}
 

@@ -10,10 +10,10 @@ use borrow.Author.Tests.{eqb-true, eq-eqb, ne-eqb, ltb-true}
 use lib.Bits.{bitAnd, bitXor, and-zero-r, and-block, xor-block, and-le-r, xor-lt}
 use lib.Dec.{T, eqb, ltb}
 use Rattle.bytes.specs.Numbers.{digits, bytesOf}
-use Rattle.text.specs.Characters.{isDigit, isNameCharacter}
 use Rattle.bytes.specs.Every.{allOf}
 use Rattle.bytes.proofs.Every.{and-first, and-second, same-tests}
 use Rattle.bytes.proofs.Tables.{computed}
+use Rattle.text.specs.Characters.{isDigit, isNameCharacter}
 use Rattle.text.proofs.LowDigits.{digits-low}
 use Rattle.text.proofs.TextsAt.{all-append}
 

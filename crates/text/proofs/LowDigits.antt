@@ -7,8 +7,8 @@ use native.Mathlib.Nat.{le-refl, pow-zero, pow-succ', div-one, div-div-eq-div-mu
 use native.Mathlib.Omega.{arith}
 use lib.ListN.{length, set, length-map, length-set}
 use Rattle.bytes.specs.Numbers.{digits}
-use Rattle.text.specs.Texts.{placed}
 use Rattle.bytes.proofs.Digits.{digits-length}
+use Rattle.text.specs.Texts.{placed}
 use Rattle.text.proofs.PlacedTexts.{placed-none, placed-beyond, placed-last}
 
 pub digits-low : (b n x : ℕ) → digits b (suc n) x ≡ digits b n (x / b) ++ (x % b ∷ [])

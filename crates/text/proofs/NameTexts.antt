@@ -9,9 +9,9 @@ use borrow.Author.Tests.{ltb-true, ltb-false}
 use lib.Dec.{ltb}
 use lib.ListN.{length, getD, List·getD-eq-default}
 use Rattle.bytes.specs.Numbers.{Below}
-use Rattle.text.specs.Characters.{isDigit, isNameCharacter}
 use Rattle.bytes.specs.Every.{allOf}
 use Rattle.bytes.proofs.Every.{either, all-at}
+use Rattle.text.specs.Characters.{isDigit, isNameCharacter}
 use Rattle.text.proofs.Notations.{digit-high, between-high}
 
 name-byte : (c : ℕ) → isNameCharacter c ≡ true → c < 256

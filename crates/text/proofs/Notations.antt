@@ -5,10 +5,10 @@ use Prim.Native.Nat.{ℕ, _+_, _-_, _≤_}
 use native.Mathlib.Omega.{arith}
 use borrow.Author.Tests.{lt-ltb, le-ltb, leb-true}
 use lib.Dec.{ltb, leb, eqb, eqb→eq}
-use Rattle.text.specs.Characters.{between, isDigit, isUpperHex, isHex, hexValue, hexCharacter, digitValue, digitCharacter}
 use Rattle.bytes.proofs.Every.{and-first, and-second, either}
-use Rattle.text.proofs.Alphabets.{Alphabet}
 use Rattle.bytes.proofs.Tables.{T-true, computed}
+use Rattle.text.specs.Characters.{between, isDigit, isUpperHex, isHex, hexValue, hexCharacter, digitValue, digitCharacter}
+use Rattle.text.proofs.Alphabets.{Alphabet}
 
 pub between-low : (low high c : ℕ) → between low high c ≡ true → low ≤ c
 between-low low high c e = leb-true low c (and-first (leb low c) (leb c high) e)

@@ -12,15 +12,15 @@ use lib.Arith.{digits-lt}
 use lib.Dec.{leb, ltb}
 use lib.ListN.{length, getD, length-map}
 use Rattle.bytes.specs.Numbers.{value}
-use Rattle.text.specs.Characters.{isHex, isDigit, hexNumber, decimalNumber}
 use Rattle.bytes.specs.Every.{allOf}
-use Rattle.text.specs.Texts.{part, allAt, hexAt, decimalAt}
 use Rattle.bytes.specs.declared.numbers.Reading.{Reading}
 use Rattle.bytes.specs.declared.numbers.Reading.the-variants.{Number, Wrong}
 use Rattle.bytes.proofs.Every.{and-second, either}
+use Rattle.bytes.proofs.Places.{part-length}
+use Rattle.text.specs.Characters.{isHex, isDigit, hexNumber, decimalNumber}
+use Rattle.text.specs.Texts.{part, allAt, hexAt, decimalAt}
 use Rattle.text.proofs.Alphabets.{Alphabet, number-below}
 use Rattle.text.proofs.Notations.{hex, decimal}
-use Rattle.bytes.proofs.Places.{part-length}
 use Rattle.text.proofs.TextsAt.{part-first, all-within, all-there, all-inside}
 
 -- the number of the n characters from place at, of which at most `most` are read

@@ -10,10 +10,10 @@ use borrow.Author.Tests.{lt-ltb, le-ltb, ltb-true, ltb-false}
 use lib.Dec.{ltb}
 use lib.ListN.{length, getD}
 use Rattle.bytes.specs.Numbers.{digits}
-use Rattle.text.specs.Characters.{isDigit, digitCharacter, decimalNumber}
 use Rattle.bytes.specs.Every.{allOf}
-use Rattle.text.specs.Texts.{widthUpTo, width, numeral}
 use Rattle.bytes.proofs.Every.{either}
+use Rattle.text.specs.Characters.{isDigit, digitCharacter, decimalNumber}
+use Rattle.text.specs.Texts.{widthUpTo, width, numeral}
 use Rattle.text.proofs.Alphabets.{text-length, text-written, number-of-text-fit}
 use Rattle.text.proofs.Notations.{decimal}
 

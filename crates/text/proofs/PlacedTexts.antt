@@ -9,8 +9,8 @@ use borrow.Author.Tests.{le-leb, lt-leb, leb-true, leb-false}
 use lib.Dec.{leb}
 use lib.ListN.{length, take, drop, set, length-append, length-drop, length-set, take-append-drop}
 use lib.Seq.{length-take-le, take-suc-set, drop-set-lt, set-comm}
-use Rattle.text.specs.Texts.{placed}
 use Rattle.bytes.proofs.Every.{either}
+use Rattle.text.specs.Texts.{placed}
 
 module _ (at : ℕ) (t s : List ℕ) where
   pub placed-within : at + length t ≤ length s → placed at t s ≡ take at s ++ (t ++ drop (at + length t) s)

@@ -10,8 +10,8 @@ use borrow.Author.Tests.{eqb-true, eq-eqb, ne-eqb}
 use lib.Dec.{eqb}
 use lib.ListN.{length, getD, drop, length-take, length-drop, drop-of-length-le}
 use lib.Seq.{drop-cons}
-use Rattle.text.specs.Texts.{part, sameText, standsAt}
 use Rattle.bytes.proofs.Every.{and-first, and-second, either}
+use Rattle.text.specs.Texts.{part, sameText, standsAt}
 use Rattle.text.proofs.TextsAt.{part-first}
 
 pub same-true : (s t : List ℕ) → sameText s t ≡ true → s ≡ t

@@ -11,8 +11,8 @@ use lib.Dec.{leb}
 use lib.ListN.{length, getD, take, drop, length-append}
 use lib.Seq.{drop-cons, drop-drop, take-add, take-at, drop-at}
 use Rattle.bytes.specs.Every.{allOf}
-use Rattle.text.specs.Texts.{part, allAt}
 use Rattle.bytes.proofs.Every.{and-first, and-second, either}
+use Rattle.text.specs.Texts.{part, allAt}
 
 -- the bytes from place at + i on: the one there, and those after it
 pub part-first : (n : ℕ) (s : List ℕ) (at i : ℕ) → at + n ≤ length s → i < n

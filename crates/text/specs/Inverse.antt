@@ -4,8 +4,8 @@ use mathlib.Core.Bool.{true}
 use mathlib.Core.List.{List}
 use Prim.Native.Nat.{ℕ, _^_, _<_}
 use lib.ListN.{length}
-use Rattle.text.specs.Characters.{isDigit, isUpperHex, hexText, hexNumber, decimalText, decimalNumber}
 use Rattle.bytes.specs.Every.{allOf}
+use Rattle.text.specs.Characters.{isDigit, isUpperHex, hexText, hexNumber, decimalText, decimalNumber}
 
 -- the number of the hex text of a number is the number
 abbrev pub NumberOfHexText : Type 0

@@ -4,10 +4,10 @@ use mathlib.Core.List.{List, [], _∷_, _++_}
 use Prim.Native.Nat.{ℕ, zero, suc, _+_, _/_}
 use lib.Dec.{leb, ltb, eqb}
 use lib.ListN.{length, take, drop}
-use Rattle.text.specs.Characters.{isDigit, isHex, hexNumber, decimalText, decimalNumber}
 use Rattle.bytes.specs.Every.{allOf}
 use Rattle.bytes.specs.declared.numbers.Reading.{Reading}
 use Rattle.bytes.specs.declared.numbers.Reading.the-variants.{Number, Wrong}
+use Rattle.text.specs.Characters.{isDigit, isHex, hexNumber, decimalText, decimalNumber}
 
 -- the n bytes of s from place at
 abbrev pub part : ℕ → List ℕ → ℕ → List ℕ

@@ -1,8 +1,8 @@
 // The characters of a name of eight, tested all at once.
 ghost use mathlib.Core.Path.{_≡_};
 ghost use Rattle.bytes.specs.Numbers.{bytesOf};
-ghost use Rattle.text.specs.Characters.{isNameCharacter};
 ghost use Rattle.bytes.specs.Every.{allOf};
+ghost use Rattle.text.specs.Characters.{isNameCharacter};
 
 // The top bit of each byte.
 const TOP: u64 = 0x8080_8080_8080_8080;

@@ -8,23 +8,23 @@ use borrow.Author.Tests.{eqb-true, ltb-true, ltb-false}
 use lib.Dec.{ltb}
 use lib.ListN.{length, drop, getD}
 use Rattle.bytes.specs.Numbers.{Below}
+use Rattle.bytes.proofs.Digits.{take-below, drop-below}
+use Rattle.bytes.proofs.Every.{either}
 use Rattle.text.specs.Characters.{isHex, hexNumber}
 use Rattle.text.specs.Texts.{part, allAt}
 use Rattle.text.proofs.Alphabets.{text-injective}
-use Rattle.bytes.proofs.Digits.{take-below, drop-below}
-use Rattle.bytes.proofs.Every.{either}
 use Rattle.text.proofs.Notations.{hex}
 use Rattle.text.proofs.TextsAt.{all-there}
 use Rattle.crc32.specs.Crc32.{crc32Of}
 use Rattle.crc32.specs.OneChange.{DifferAt}
 use Rattle.crc32.proofs.OneChange.{one-change}
 use Rattle.forms.specs.Order.{demand}
+use Rattle.forms.proofs.OnePlace.{part-before, part-after, part-differs}
 use Rattle.user_permit.specs.Register.{isRegister}
 use Rattle.user_permit.specs.UserPermit.{isPermitText, isCrcRight, readPermit}
 use Rattle.user_permit.specs.OneCharacter.{isShip, UserPermitGuarded}
 use Rattle.user_permit.specs.declared.UserPermit.{UserPermit}
 use Rattle.user_permit.specs.declared.UserPermit.the-variants.{Refused}
-use Rattle.forms.proofs.OnePlace.{part-before, part-after, part-differs}
 use Rattle.user_permit.proofs.UserPermits.{text-size, text-hex, second-hex}
 
 -- what was demanded of a ship holds, and what follows is that ship

@@ -8,16 +8,16 @@ use borrow.Author.Tests.{ltb-true}
 use lib.Dec.{ltb}
 use lib.ListN.{length}
 use Rattle.bytes.specs.Numbers.{Below, bytesOf}
-use Rattle.text.specs.Characters.{isUpperHex, hexNumber}
 use Rattle.bytes.specs.Every.{allOf}
-use Rattle.text.specs.Texts.{part}
 use Rattle.bytes.specs.Padding.{padOf, unpadOf}
 use Rattle.bytes.specs.declared.numbers.Reading.the-variants.{Number}
 use Rattle.bytes.proofs.Digits.{digits-below}
-use Rattle.text.proofs.Alphabets.{number-of-text-fit}
 use Rattle.bytes.proofs.Every.{and-first}
-use Rattle.text.proofs.Notations.{hex}
 use Rattle.bytes.proofs.Pads.{unpad-pad-fit, pad-below}
+use Rattle.text.specs.Characters.{isUpperHex, hexNumber}
+use Rattle.text.specs.Texts.{part}
+use Rattle.text.proofs.Alphabets.{number-of-text-fit}
+use Rattle.text.proofs.Notations.{hex}
 use Rattle.crc32.specs.Crc32.{crc32Of}
 use Rattle.blowfish.specs.Cipher.{encipherOf, decipherOf}
 use Rattle.blowfish.proofs.Words.{number-back, blocks-stay-blocks, keys-have-words}

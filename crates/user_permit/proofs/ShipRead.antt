@@ -4,11 +4,11 @@ use mathlib.Core.Path.{_≡_, refl, sym, ap, _∙_}
 use mathlib.Core.Bool.{Bool, true, false}
 use mathlib.Core.List.{List}
 use Prim.Native.Nat.{ℕ}
-use Rattle.text.specs.Characters.{hexNumber}
-use Rattle.text.specs.Texts.{part}
 use Rattle.bytes.specs.Padding.{unpadOf}
 use Rattle.bytes.specs.declared.numbers.Reading.{Reading}
 use Rattle.bytes.specs.declared.numbers.Reading.the-variants.{Number, Wrong}
+use Rattle.text.specs.Characters.{hexNumber}
+use Rattle.text.specs.Texts.{part}
 use Rattle.blowfish.specs.Cipher.{decipherOf}
 use Rattle.forms.specs.Order.{demand}
 use Rattle.forms.specs.Identifiers.{isHwId}

@@ -10,15 +10,15 @@ use lib.Dec.{eqb}
 use lib.ListN.{length, take, drop, length-append}
 use lib.Seq.{take-all, take-at}
 use Rattle.bytes.specs.Numbers.{bytesOf}
-use Rattle.text.specs.Characters.{isHex, hexText, hexNumber}
 use Rattle.bytes.specs.Every.{allOf}
-use Rattle.text.specs.Texts.{part, allAt, placed}
 use Rattle.bytes.specs.Padding.{padOf, unpadOf}
 use Rattle.bytes.specs.declared.numbers.Reading.{Reading}
 use Rattle.bytes.specs.declared.numbers.Reading.the-variants.{Number}
 use Rattle.bytes.proofs.Digits.{digits-length}
-use Rattle.text.proofs.Alphabets.{text-length, text-written}
 use Rattle.bytes.proofs.Every.{and-first, either}
+use Rattle.text.specs.Characters.{isHex, hexText, hexNumber}
+use Rattle.text.specs.Texts.{part, allAt, placed}
+use Rattle.text.proofs.Alphabets.{text-length, text-written}
 use Rattle.text.proofs.Notations.{hex}
 use Rattle.text.proofs.PlacedTexts.{placed-start, placed-next}
 use Rattle.text.proofs.TextsAt.{part-front, all-append, all-inside, all-join, all-left, all-right}

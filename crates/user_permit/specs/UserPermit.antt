@@ -5,12 +5,12 @@ use Prim.Native.Nat.{ℕ}
 use lib.Dec.{leb, eqb}
 use lib.ListN.{length}
 use Rattle.bytes.specs.Numbers.{bytesOf}
-use Rattle.text.specs.Characters.{isHex, hexText, hexNumber}
 use Rattle.bytes.specs.Every.{allOf}
-use Rattle.text.specs.Texts.{part}
 use Rattle.bytes.specs.Padding.{padOf, unpadOf}
 use Rattle.bytes.specs.declared.numbers.Reading.{Reading}
 use Rattle.bytes.specs.declared.numbers.Reading.the-variants.{Number, Wrong}
+use Rattle.text.specs.Characters.{isHex, hexText, hexNumber}
+use Rattle.text.specs.Texts.{part}
 use Rattle.crc32.specs.Crc32.{crc32Of}
 use Rattle.blowfish.specs.Cipher.{encipherOf, decipherOf}
 use Rattle.blowfish.specs.Schedule.{schedule}

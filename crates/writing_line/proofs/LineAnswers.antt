@@ -11,9 +11,9 @@ use Rattle.text.specs.Texts.{placed, width}
 use Rattle.text.proofs.PlacedTexts.{placed-start}
 use Rattle.forms.specs.Identifiers.{isHwId}
 use Rattle.forms.specs.Output.{Answered}
-use Rattle.cell_permit.specs.CellPermit.{shipWords, lineOf, lineEnd, isCell, writtenLine}
 use Rattle.forms.specs.declared.Written.{Written}
 use Rattle.forms.specs.declared.Written.the-variants.{Length, Refused}
+use Rattle.cell_permit.specs.CellPermit.{shipWords, lineOf, lineEnd, isCell, writtenLine}
 use Rattle.cell_permit.specs.declared.Cell.{Cell}
 use Rattle.cell_permit.proofs.GoodCell.{good-cell}
 use Rattle.cell_permit.proofs.LineSizes.{edition-few, line-size}

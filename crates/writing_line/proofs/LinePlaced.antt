@@ -9,9 +9,9 @@ use native.Mathlib.Omega.{arith}
 use lib.ListN.{length, take, drop, set, length-append}
 use lib.Seq.{take-at, length-take-le}
 use Rattle.bytes.specs.Numbers.{digits, bytesOf}
+use Rattle.bytes.specs.Padding.{padOf}
 use Rattle.text.specs.Characters.{hexText, decimalText}
 use Rattle.text.specs.Texts.{placed, width, numeral}
-use Rattle.bytes.specs.Padding.{padOf}
 use Rattle.text.proofs.Alphabets.{text-length}
 use Rattle.text.proofs.Notations.{decimal}
 use Rattle.text.proofs.PlacedTexts.{length-placed, placed-start, placed-first, placed-next}

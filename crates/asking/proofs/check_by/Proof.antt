@@ -5,8 +5,8 @@ use borrow.Author.Needs.{needs}
 use Rattle.cell_permit.specs.Line.{readLine}
 use Rattle.tenants.specs.declared.Setting.{Setting}
 use Rattle.tenants.proofs.Ranges.{tenant-is, tenant-not}
-use Rattle.asking.proofs.AnswerRules.{checking-outside, checking-line}
 use Rattle.layout.proofs.Indexed.{own-setting}
+use Rattle.asking.proofs.AnswerRules.{checking-outside, checking-line}
 use Rattle.asking.proofs.LineWritten.{set-days}
 use Rattle.asking.proofs.check_by.Statement.{statement}
 use Rattle.asking.proofs.check_by.Tie as tie

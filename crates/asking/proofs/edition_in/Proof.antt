@@ -13,8 +13,8 @@ use Rattle.tenants.specs.Rules.{isTenant}
 use Rattle.tenants.specs.Together.{names}
 use Rattle.tenants.proofs.Ranges.{tenant-is, tenant-not}
 use Rattle.layout.specs.Layout.{ownIn}
-use Rattle.asking.proofs.AnswerRules.{asking-outside, asking-unfit, asking-absent, asking-held}
 use Rattle.records.proofs.OwnFound.{finds-held, finds-none}
+use Rattle.asking.proofs.AnswerRules.{asking-outside, asking-unfit, asking-absent, asking-held}
 use Rattle.asking.proofs.edition_in.Statement.{statement}
 use Rattle.asking.proofs.edition_in.Tie as tie
 

@@ -5,15 +5,15 @@ use mathlib.Core.List.{List}
 use Prim.Native.Nat.{ℕ, _<_}
 use borrow.Author.Needs.{needs}
 use lib.ListN.{length}
-use Rattle.cell_permit.specs.CellPermit.{writtenLine}
 use Rattle.forms.proofs.Outputs.{refused}
+use Rattle.cell_permit.specs.CellPermit.{writtenLine}
 use Rattle.tenants.specs.declared.Held.{Held}
 use Rattle.tenants.specs.declared.Setting.{Setting}
 use Rattle.tenants.specs.Rules.{lineCell}
 use Rattle.tenants.specs.Together.{names}
 use Rattle.layout.proofs.Indexed.{own-setting}
-use Rattle.asking.proofs.AnswerRules.{answered-same, line-refused, line-absent, line-held}
 use Rattle.records.proofs.OwnFound.{finds-held, finds-none}
+use Rattle.asking.proofs.AnswerRules.{answered-same, line-refused, line-absent, line-held}
 use Rattle.asking.proofs.issue_for.Statement.{statement}
 use Rattle.asking.proofs.issue_for.Tie as tie
 

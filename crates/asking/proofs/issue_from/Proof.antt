@@ -9,13 +9,13 @@ use lib.ListN.{length}
 use Rattle.bytes.proofs.Every.{and-first, and-second}
 use Rattle.dates.specs.Calendar.{isDate}
 use Rattle.forms.specs.Identifiers.{isCellName}
+use Rattle.forms.proofs.Outputs.{refused}
 use Rattle.user_permit.specs.Register.{isRegister}
 use Rattle.user_permit.specs.declared.UserPermit.{UserPermit}
-use Rattle.forms.proofs.Outputs.{refused}
 use Rattle.tenants.specs.Cells.{cellOf}
 use Rattle.tenants.proofs.Ranges.{tenant-is, tenant-not}
-use Rattle.asking.specs.Issuing.{lineWritten}
 use Rattle.layout.specs.Layout.{ownIn}
+use Rattle.asking.specs.Issuing.{lineWritten}
 use Rattle.asking.proofs.AnswerRules.{answered-same, issuing-register-damaged, issuing-outside, issuing-short, issuing-unfit, issuing-line}
 use Rattle.asking.proofs.LineWritten.{line-written}
 use Rattle.asking.proofs.issue_from.Statement.{statement}

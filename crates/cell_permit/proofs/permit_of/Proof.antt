@@ -11,8 +11,8 @@ use Rattle.bytes.specs.declared.numbers.Reading.the-variants.{Number}
 use Rattle.text.specs.Texts.{allAt, hexAt}
 use Rattle.text.specs.Characters.{isNameCharacter}
 use Rattle.forms.specs.DateText.{dateAt}
-use Rattle.cell_permit.proofs.ReadPermits.{no-name, no-expiry, no-block1, no-block2, no-check, is-permit}
 use Rattle.forms.proofs.DateTexts.{date-small}
+use Rattle.cell_permit.proofs.ReadPermits.{no-name, no-expiry, no-block1, no-block2, no-check, is-permit}
 use Rattle.cell_permit.proofs.permit_of.Statement.{statement}
 use Rattle.cell_permit.proofs.permit_of.Tie as tie
 

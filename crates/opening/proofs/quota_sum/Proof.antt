@@ -5,8 +5,8 @@ use mathlib.Core.List.{[]}
 use Prim.Native.Nat.{_-_}
 use native.Mathlib.Omega.{arith}
 use borrow.Author.Needs.{needs}
-use Rattle.opening.specs.Opening.{firstSetting}
 use Rattle.layout.proofs.QuotaSums.{Summed, summed-none, summed-next, summed-all}
+use Rattle.opening.specs.Opening.{firstSetting}
 use Rattle.opening.proofs.quota_sum.Statement.{statement}
 use Rattle.opening.proofs.quota_sum.Tie as tie
 

@@ -4,8 +4,8 @@ use mathlib.Core.Bool.{true}
 use borrow.Author.Needs.{needs}
 use borrow.Author.Tests.{not-true, not-false}
 use Rattle.forms.specs.Identifiers.{isHwId}
-use Rattle.user_permit.specs.Register.{isRegister}
 use Rattle.forms.proofs.Outputs.{refused, wrote}
+use Rattle.user_permit.specs.Register.{isRegister}
 use Rattle.user_permit.proofs.UserPermits.{permit-length, made-damaged, made-short, made-no-hw-id, made-unknown, made-text}
 use Rattle.user_permit.proofs.make_user_permit.Statement.{statement}
 use Rattle.user_permit.proofs.make_user_permit.Tie as tie

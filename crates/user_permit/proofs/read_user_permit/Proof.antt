@@ -8,8 +8,8 @@ use borrow.Author.Needs.{needs}
 use borrow.Author.Tests.{not-true, not-false}
 use lib.ListN.{length}
 use lib.Seq.{length-take-le}
-use Rattle.text.specs.Characters.{isHex, hexNumber}
 use Rattle.bytes.specs.Padding.{unpadOf}
+use Rattle.text.specs.Characters.{isHex, hexNumber}
 use Rattle.text.specs.Texts.{part, allAt}
 use Rattle.text.proofs.NumbersAt.{hex-number, hex-wrong, hex-bound}
 use Rattle.blowfish.specs.Cipher.{decipherOf}

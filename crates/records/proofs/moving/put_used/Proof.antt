@@ -5,8 +5,8 @@ use mathlib.Core.List.{List}
 use Prim.Native.Nat.{ℕ}
 use native.Mathlib.Omega.{arith}
 use borrow.Author.Needs.{needs}
-use Rattle.text.specs.Texts.{placed}
 use Rattle.bytes.proofs.Digits.{digits-of-low}
+use Rattle.text.specs.Texts.{placed}
 use Rattle.records.proofs.moving.put_used.Statement.{statement}
 use Rattle.records.proofs.moving.put_used.Tie as tie
 
