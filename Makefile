@@ -17,7 +17,7 @@ COMPARISONS = $(basename $(notdir $(shell grep -l run_subjects tests/*.c)))
 MODEL = target/tests/model.o target/tests/model_book.o target/tests/model_file.o
 
 # what a crate is made of: its own files and those of all that it uses, and their folders, which tell of a file taken away
-files_of = crates.txt $(shell find $$(tests/crates $(1) | sed 's|^|crates/|') -name must-fail -prune -o -print)
+files_of = crates.txt $(foreach crate,$(shell tests/crates $(1)),$(shell find crates/$(crate) -name must-fail -prune -o -print))
 
 .PHONY: help run test bench lib install proved comparisons
 
