@@ -13,6 +13,9 @@ HEADER = target/include/lambukir.h
 PREFIX = /usr/local
 VERSION = 0.4.0
 
+# rt waits for a whole batch of its jobs: one more than it would take by itself fills the gaps
+export RT_JOBS ?= $(shell n=$$(nproc); echo $$((n < 4 ? n + 1 : 5)))
+
 COMPARISONS = $(basename $(notdir $(shell grep -l run_subjects tests/*.c)))
 MODEL = target/tests/model.o target/tests/model_book.o target/tests/model_file.o
 
