@@ -1,16 +1,17 @@
--- What is written of a record and of a used length, byte by byte: the tenant's byte and the name are the full name.
+-- Fields put one after the other are one text; the tenant's byte and the name are the full name.
 -- Assumes nothing.
 use mathlib.Core.Path.{_≡_, sym, ap, ap₂, _∙_}
 use mathlib.Core.List.{List, [], _∷_, _++_}
-use Prim.Native.Nat.{ℕ, suc, _+_, _*_, _/_, _%_, _^_, _<_}
-use native.Mathlib.Nat.{div-one, mul-add-mod-self-right}
+use Prim.Native.Nat.{ℕ, suc, _+_, _*_, _%_, _^_, _≤_, _<_}
+use native.Mathlib.Nat.{mul-add-mod-self-right}
 use native.Mathlib.Omega.{arith}
 use lib.Arith.{digits-div}
+use lib.ListN.{length, length-append}
 use Rattle.bytes.specs.Numbers.{digits, bytesOf}
 use Rattle.bytes.proofs.Digits.{digits-of-low}
-use Rattle.tenants.specs.declared.Held.{Held}
-use Rattle.tenants.specs.Together.{names, inBook}
-use Rattle.layout.specs.Layout.{zeros, recordBytes}
+use Rattle.text.specs.Texts.{placed}
+use Rattle.text.proofs.PlacedTexts.{length-placed, placed-next}
+use Rattle.tenants.specs.Together.{fullName}
 
 -- a digit in front of n lower ones
 digit-in-front : (b n d x : ℕ) → x < b ^ n → 0 < b → digits b (suc n) (d * b ^ n + x) ≡ d % b ∷ digits b n x
@@ -22,43 +23,19 @@ digit-in-front b n d x g some =
     ∙ ap (digits b n) (mul-add-mod-self-right d (b ^ n) x)
     ∙ digits-of-low b n x some)
 
--- a record's bytes, of the tenant's number the lowest alone
-by-fields : (t : ℕ) (cell : Held) → cell .name < names
-    → recordBytes (inBook t cell)
-    ≡ (t % 256 ∷ bytesOf 8 (cell .name)) ++ (bytesOf 2 (cell .edition) ++ (bytesOf 5 (cell .key1) ++ (bytesOf 5 (cell .key2) ++ zeros 3)))
-unfolding recordBytes
-by-fields t cell small =
-    ap (λ (l : List ℕ). l ++ (bytesOf 2 (cell .edition) ++ (bytesOf 5 (cell .key1) ++ (bytesOf 5 (cell .key2) ++ zeros 3))))
-    (digit-in-front 256 8 t (cell .name) small (omega arith))
+pub full-name-bytes : (t name : ℕ) → name < 256 ^ 8 → (t % 256 ∷ []) ++ bytesOf 8 name ≡ bytesOf 9 (fullName t name)
+full-name-bytes t name small = sym (digit-in-front 256 8 t name small (omega arith))
 
--- the same one by one
-pub record-bytes : (t : ℕ) (cell : Held) → cell .name < names
-    → t % 256
-    ∷ cell .name / 72057594037927936 % 256
-    ∷ cell .name / 281474976710656 % 256
-    ∷ cell .name / 1099511627776 % 256
-    ∷ cell .name / 4294967296 % 256
-    ∷ cell .name / 16777216 % 256
-    ∷ cell .name / 65536 % 256
-    ∷ cell .name / 256 % 256
-    ∷ cell .name % 256
-    ∷ cell .edition / 256 % 256
-    ∷ cell .edition % 256
-    ∷ cell .key1 / 4294967296 % 256
-    ∷ cell .key1 / 16777216 % 256
-    ∷ cell .key1 / 65536 % 256
-    ∷ cell .key1 / 256 % 256
-    ∷ cell .key1 % 256
-    ∷ cell .key2 / 4294967296 % 256
-    ∷ cell .key2 / 16777216 % 256
-    ∷ cell .key2 / 65536 % 256
-    ∷ cell .key2 / 256 % 256
-    ∷ cell .key2 % 256
-    ∷ 0
-    ∷ 0
-    ∷ 0
-    ∷ []
-    ≡ recordBytes (inBook t cell)
-unfolding digits
-record-bytes t cell small =
-    sym (by-fields t cell small ∙ rw (div-one (cell .name), div-one (cell .edition), div-one (cell .key1), div-one (cell .key2)))
+-- a text is put, and another where it ends
+module _ (at n : ℕ) (a b s s₁ s₂ : List ℕ) (first : s₁ ≡ placed at a s) (next : s₂ ≡ placed n b s₁) where
+  pub two-put : n ≡ at + length a → at + (length a + length b) ≤ length s → s₂ ≡ placed at (a ++ b) s
+  two-put e room = next ∙ ap (placed n b) first ∙ placed-next at n a b s e room
+
+  pub three-put : (m : ℕ) (d s₃ : List ℕ) → s₃ ≡ placed m d s₂ → n ≡ at + length a → m ≡ n + length b
+      → at + (length a + (length b + length d)) ≤ length s → s₃ ≡ placed at (a ++ (b ++ d)) s
+  three-put m d s₃ last e f room =
+      last
+      ∙ ap (placed m d) next
+      ∙ placed-next n m b d s₁ f (omega (arith, ap length first ∙ length-placed at a s))
+      ∙ ap (placed n (b ++ d)) first
+      ∙ placed-next at n a (b ++ d) s e (simp length-append (omega arith))

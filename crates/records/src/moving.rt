@@ -1,9 +1,12 @@
 // Records moved, written and taken out: the bytes that change.
 ghost use mathlib.Core.Path.{_≡_};
+ghost use mathlib.Core.List.{_++_};
 ghost use Prim.Native.Nat.{_+_, _≤_};
 ghost use lib.ListN.{length};
-ghost use Rattle.tenants.specs.Together.{inBook};
-ghost use Rattle.layout.specs.Layout.{recordSize};
+ghost use Rattle.bytes.specs.Numbers.{bytesOf};
+ghost use Rattle.text.specs.Texts.{placed};
+ghost use Rattle.tenants.specs.Together.{fullName, inBook};
+ghost use Rattle.layout.specs.Layout.{recordSize, zeros, recordBytes};
 ghost use Rattle.records.specs.Moves.{gapAt, movedDown, gapClosed, usedPut, recordPut, recordInserted, recordRemoved};
 use layout::RECORD_SIZE;
 use layout::RECORDS_PLACE;
@@ -43,41 +46,49 @@ fn close_gap(book: &mut [u8], at: usize, used: usize)
     text::writing::put_text(book, used - RECORD_SIZE, &none);
 }
 
+// Writes the full name: the tenant in one byte, and the name.
+fn put_full_name(book: &mut [u8], at: usize, tenant: u32, name: u64)
+    requires { ⌜ at + 9 ≤ length (now book) ⌝ }
+    ensures { λ _. ⌜ now (book .exit) ≡ placed at (bytesOf 9 (fullName tenant name)) (now (book .entry)) ⌝ }
+{
+    let first = [(tenant % 256) as u8];
+    let rest = bytes::numbers::bytes64(name);
+    text::writing::put_text(book, at, &first);
+    text::writing::put_text(book, at + 1, &rest);
+}
+
+// Writes the two keys, and the zeros that fill up a record.
+fn put_keys(book: &mut [u8], at: usize, key1: u64, key2: u64)
+    requires { ⌜ at + 13 ≤ length (now book) ⌝ }
+    ensures { λ _. ⌜ now (book .exit) ≡ placed at (bytesOf 5 key1 ++ (bytesOf 5 key2 ++ zeros 3)) (now (book .entry)) ⌝ }
+{
+    let one = bytes::numbers::bytes40(key1);
+    let two = bytes::numbers::bytes40(key2);
+    let spare = [0u8; 3];
+    text::writing::put_text(book, at, &one);
+    text::writing::put_text(book, at + 5, &two);
+    text::writing::put_text(book, at + 10, &spare);
+}
+
+// Writes the fields of a tenant's cell, one after the other.
+fn put_fields(book: &mut [u8], at: usize, tenant: u32, cell: Held)
+    requires { ⌜ at + recordSize ≤ length (now book) ⌝ }
+    ensures { λ _. ⌜ now (book .exit) ≡ placed at (recordBytes (inBook tenant cell)) (now (book .entry)) ⌝ }
+{
+    let edition = bytes::numbers::bytes16((cell.edition % 65536) as u16);
+    put_full_name(book, at, tenant, cell.name);
+    text::writing::put_text(book, at + 9, &edition);
+    put_keys(book, at + 11, cell.key1, cell.key2);
+}
+
 // Writes a tenant's cell as record i.
 pub fn put_record(book: &mut [u8], i: u32, tenant: u32, cell: Held)
     ensures { λ _. ⌜ now (book .exit) ≡ recordPut i (inBook tenant cell) (now (book .entry)) ⌝ }
 {
-    let name = cell.name;
-    let edition = cell.edition;
-    let key1 = cell.key1;
-    let key2 = cell.key2;
-    let bytes = [
-        (tenant % 256) as u8,
-        (name / 72057594037927936 % 256) as u8,
-        (name / 281474976710656 % 256) as u8,
-        (name / 1099511627776 % 256) as u8,
-        (name / 4294967296 % 256) as u8,
-        (name / 16777216 % 256) as u8,
-        (name / 65536 % 256) as u8,
-        (name / 256 % 256) as u8,
-        (name % 256) as u8,
-        (edition / 256 % 256) as u8,
-        (edition % 256) as u8,
-        (key1 / 4294967296 % 256) as u8,
-        (key1 / 16777216 % 256) as u8,
-        (key1 / 65536 % 256) as u8,
-        (key1 / 256 % 256) as u8,
-        (key1 % 256) as u8,
-        (key2 / 4294967296 % 256) as u8,
-        (key2 / 16777216 % 256) as u8,
-        (key2 / 65536 % 256) as u8,
-        (key2 / 256 % 256) as u8,
-        (key2 % 256) as u8,
-        0,
-        0,
-        0,
-    ];
-    text::writing::put_text(book, RECORDS_PLACE + RECORD_SIZE * i as usize, &bytes);
+    let at = RECORDS_PLACE + RECORD_SIZE * i as usize;
+    if bytes::numbers::lies_within(book, at, RECORD_SIZE) {
+        put_fields(book, at, tenant, cell);
+    }
 }
 
 // Writes a used length.
