@@ -7,10 +7,11 @@ use Rattle.bytes.specs.Numbers.{Below, bytesOf, bytesNumber}
 use Rattle.bytes.specs.Padding.{padOf, unpadOf}
 use Rattle.bytes.specs.declared.numbers.Reading.the-variants.{Number}
 
--- the same of big-endian bytes
+-- the number of the big-endian bytes of a number is the number
 abbrev pub NumberOfBytes : Type 0
 NumberOfBytes = (n x : ℕ) → x < 256 ^ n → bytesNumber (bytesOf n x) ≡ x
 
+-- the bytes of the number of some bytes are these bytes
 abbrev pub BytesOfNumber : Type 0
 BytesOfNumber = (s : List ℕ) → Below 256 s → bytesOf (length s) (bytesNumber s) ≡ s
 

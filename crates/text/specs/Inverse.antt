@@ -15,9 +15,10 @@ NumberOfHexText = (n x : ℕ) → x < 16 ^ n → hexNumber (hexText n x) ≡ x
 abbrev pub HexTextOfNumber : Type 0
 HexTextOfNumber = (s : List ℕ) → allOf isUpperHex s ≡ true → hexText (length s) (hexNumber s) ≡ s
 
--- the same of decimal digits
+-- the number of the decimal text of a number is the number
 abbrev pub NumberOfDecimalText : Type 0
 NumberOfDecimalText = (n x : ℕ) → x < 10 ^ n → decimalNumber (decimalText n x) ≡ x
 
+-- the decimal text of the number of digits is these digits
 abbrev pub DecimalTextOfNumber : Type 0
 DecimalTextOfNumber = (s : List ℕ) → allOf isDigit s ≡ true → decimalText (length s) (decimalNumber s) ≡ s
