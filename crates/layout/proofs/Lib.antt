@@ -16,4 +16,4 @@ pub mod SettingTests
 pub mod QuotaTests
 pub mod RecordTests
 pub mod TestedRecords
-pub mod Judged
+pub mod Tested

@@ -1,3 +1,4 @@
 pub mod Layout
+pub mod Starts
 pub mod Readable
 pub mod Judging

@@ -31,6 +31,12 @@ pub const RECORDS_PLACE: usize = 101;
 // How many records there are at most; the quotas sum to no more.
 pub const MOST_RECORDS: usize = 512;
 
+// What judging a book for a tenant finds: from which record on, and up to which, its own stand; or that the book is damaged.
+pub enum Judged {
+    Records { first: u32, past: u32 },
+    Damaged,
+}
+
 // How many records the used length tells.
 pub fn count(book: &[u8]) -> usize
     ensures { λ r. ⌜ r ≡ recordCount (now (book .entry)) ⌝ }

@@ -11,7 +11,7 @@ use lib.Seq.{take-all}
 use Rattle.bytes.specs.Every.{allOf}
 use Rattle.layout.specs.Layout.{usedLength, recordCount}
 use Rattle.layout.specs.Judging.{isZero, recordsTest}
-use Rattle.layout.proofs.Judged.{test-fails, fact-fails, last-decides}
+use Rattle.layout.proofs.Tested.{test-fails, fact-fails, last-decides}
 use Rattle.layout.proofs.is_book.Statement.{statement}
 use Rattle.layout.proofs.is_book.Tie as tie
 

@@ -27,7 +27,7 @@ use Rattle.layout.proofs.QuotaTests.{quotas-tested}
 use Rattle.layout.proofs.TestedRecords.{first-above, tests-records, records-tests, held-cells}
 
 -- what the tests find of an undamaged book, in their order
-pub record Judged (s : List ℕ) : Type 0 where
+pub record Tested (s : List ℕ) : Type 0 where
   pub size : length s ≡ bookSize
   pub version : getD s 0 0 ≡ 1
   pub few : recordCount s ≤ 512
@@ -45,9 +45,9 @@ module _ (s : List ℕ) (below : Below 256 s) where
   quotas-same size few =
       quotas-tested held (eachFrom (recordAt s) 0 (recordCount s)) (λ t. held-cells s below t 0 (recordCount s) (omega arith)) s 0 16
 
-  pub book-judged : isBook s ≡ true → Judged s
+  pub book-tested : isBook s ≡ true → Tested s
   unfolding isGood bookOf settingsTest recordsTest
-  book-judged undamaged =
+  book-tested undamaged =
       let frame = book-frame s undamaged in
       let h : length s ≡ bookSize = frame .size in
       let few : recordCount s ≤ 512 = frame .few in
@@ -80,24 +80,24 @@ module _ (s : List ℕ) (below : Below 256 s) where
         rest = each-zero s (usedLength (recordCount s)) (frame .rest);
       }
 
-  pub judged-book : Judged s → isBook s ≡ true
+  pub tested-book : Tested s → isBook s ≡ true
   unfolding isBook
-  judged-book judged =
-      rw (eq-eqb (length s) bookSize (judged .size), ap (sameText s) (frame-written s below frame) ∙ same-refl s) good
+  tested-book passed =
+      rw (eq-eqb (length s) bookSize (passed .size), ap (sameText s) (frame-written s below frame) ∙ same-refl s) good
     where
       size : length s ≡ bookSize
-      size = judged .size
+      size = passed .size
 
       few : recordCount s ≤ 512
-      few = judged .few
+      few = passed .few
 
       settings : (areSettings (eachFrom (settingAt s) 0 16) ≡ true) × ((t : ℕ) → t < 16 → getD s (settingPlace t + 5) 0 ≡ 0)
       settings =
           tests-settings s (omega arith)
-          (and-first (allFrom (testAt s) 0 16) (leb (quotaSum (eachFrom (settingAt s) 0 16)) 512) (unfold settingsTest in judged .settings))
+          (and-first (allFrom (testAt s) 0 16) (leb (quotaSum (eachFrom (settingAt s) 0 16)) 512) (unfold settingsTest in passed .settings))
 
       tested : recordTests s 0 0 0 (recordCount s) ≡ true
-      tested = and-first (recordTests s 0 0 0 (recordCount s)) (allFrom (quotaTest held s) 0 16) (unfold recordsTest in judged .records)
+      tested = and-first (recordTests s 0 0 0 (recordCount s)) (allFrom (quotaTest held s) 0 16) (unfold recordsTest in passed .records)
 
       records : (areRecords (eachFrom (recordAt s) 0 (recordCount s)) ≡ true)
           × (startsAbove (fullName 0 0) (eachFrom (recordAt s) 0 (recordCount s)) ≡ true)
@@ -108,12 +108,12 @@ module _ (s : List ℕ) (below : Below 256 s) where
       frame =
           record {
             size = size;
-            version = judged .version;
-            used = judged .used;
+            version = passed .version;
+            used = passed .used;
             few = few;
             settings = settings .1;
             records = λ i high. records .2 i (omega arith) (omega arith);
-            rest = zeros-each s (usedLength (recordCount s)) (judged .rest);
+            rest = zeros-each s (usedLength (recordCount s)) (passed .rest);
           }
 
       good : isGood (bookOf s) ≡ true
@@ -122,22 +122,22 @@ module _ (s : List ℕ) (below : Below 256 s) where
           rw (
             eq-eqb (length (eachFrom (settingAt s) 0 16)) 16 (each-count (settingAt s) 0 16),
             settings .0,
-            and-second (allFrom (testAt s) 0 16) (leb (quotaSum (eachFrom (settingAt s) 0 16)) 512) (unfold settingsTest in judged .settings),
+            and-second (allFrom (testAt s) 0 16) (leb (quotaSum (eachFrom (settingAt s) 0 16)) 512) (unfold settingsTest in passed .settings),
             le-leb (length (eachFrom (recordAt s) 0 (recordCount s))) 512 (omega (arith, each-count (recordAt s) 0 (recordCount s))),
             records .0,
           )
           (sym (quotas-same size few)
-          ∙ and-second (recordTests s 0 0 0 (recordCount s)) (allFrom (quotaTest held s) 0 16) (unfold recordsTest in judged .records))
+          ∙ and-second (recordTests s 0 0 0 (recordCount s)) (allFrom (quotaTest held s) 0 16) (unfold recordsTest in passed .records))
 
   -- where a test that must be true is false, the bytes are no book
-  pub test-fails : (test : Bool) → (Judged s → test ≡ true) → test ≡ false → isBook s ≡ false
+  pub test-fails : (test : Bool) → (Tested s → test ≡ true) → test ≡ false → isBook s ≡ false
   test-fails test must fails =
-      either (isBook s) (λ undamaged. undamaged ∙ sym (must (book-judged undamaged)) ∙ fails) (λ damaged. damaged)
+      either (isBook s) (λ undamaged. undamaged ∙ sym (must (book-tested undamaged)) ∙ fails) (λ damaged. damaged)
 
-  pub fact-fails : (Judged s → ⊥) → isBook s ≡ false
-  fact-fails never = either (isBook s) (λ undamaged. absurd (never (book-judged undamaged))) (λ damaged. damaged)
+  pub fact-fails : (Tested s → ⊥) → isBook s ≡ false
+  fact-fails never = either (isBook s) (λ undamaged. absurd (never (book-tested undamaged))) (λ damaged. damaged)
 
   -- the last test decides
-  pub last-decides : (last : Bool) → (Judged s → last ≡ true) → (last ≡ true → Judged s) → last ≡ isBook s
+  pub last-decides : (last : Bool) → (Tested s → last ≡ true) → (last ≡ true → Tested s) → last ≡ isBook s
   last-decides last must enough =
-      same-tests last (isBook s) (λ true-here. judged-book (enough true-here)) (λ undamaged. must (book-judged undamaged))
+      same-tests last (isBook s) (λ true-here. tested-book (enough true-here)) (λ undamaged. must (book-tested undamaged))
