@@ -13,7 +13,11 @@ pub mod Zeros
 pub mod AllFrom
 pub mod QuotaSums
 pub mod SettingTests
-pub mod QuotaTests
 pub mod RecordTests
-pub mod TestedRecords
+pub mod PartSteps
+pub mod PartsSteps
+pub mod OnePart
+pub mod AllParts
+pub mod QuotaTests
 pub mod Tested
+pub mod Judgements

@@ -1,31 +1,39 @@
--- The test that a tenant holds no more than its quota, and what it says of all.
+-- That no tenant holds more than its quota, said of each tenant by its number.
 -- Assumes nothing.
-use mathlib.Core.Path.{_≡_, refl, sym, ap, _∙_}
-use mathlib.Core.Bool.{true, false}
+use mathlib.Core.Path.{_≡_, refl}
+use mathlib.Core.Bool.{true}
 use mathlib.Core.List.{List}
-use Prim.Native.Nat.{ℕ, zero, suc, _≤_, _<_}
-use borrow.Author.Tests.{le-leb, lt-leb}
-use lib.Dec.{leb}
+use Prim.Native.Nat.{ℕ, zero, suc, _+_, _≤_, _<_}
+use native.Mathlib.Omega.{arith}
+use borrow.Author.Tests.{le-leb, leb-true, eqb-true, eqb-false}
+use lib.Dec.{leb, eqb}
 use lib.ListN.{length}
 use Rattle.bytes.specs.Places.{numberAt}
+use Rattle.bytes.proofs.Every.{and-first, and-second, either}
 use Rattle.tenants.specs.Together.{BookRecord, cellsOf, withinQuotas}
 use Rattle.layout.specs.Layout.{settingPlace, settingAt, eachFrom}
-use Rattle.layout.specs.Judging.{allFrom, quotaTest}
 
-module _ (held : ℕ → ℕ) (s : List ℕ) (t quota : ℕ) (is : quota ≡ numberAt 2 s (settingPlace t)) where
-  tested : quotaTest held s t ≡ leb (held t) quota
-  unfolding quotaTest
-  tested = ap (leb (held t)) (sym is)
+module _ (s : List ℕ) (records : List BookRecord) where
+  -- tenant u's cells are no more than its quota
+  abbrev pub Kept : ℕ → Type 0
+  Kept u = length (cellsOf u records) ≤ numberAt 2 s (settingPlace u)
 
-  pub quota-passed : quota < held t → quotaTest held s t ≡ false
-  quota-passed high = tested ∙ lt-leb (held t) quota high
+  pub within-kept : (t n : ℕ) → withinQuotas t (eachFrom (settingAt s) t n) records ≡ true → (u : ℕ) → t ≤ u → u < t + n → Kept u
+  unfolding withinQuotas eachFrom settingAt
+  within-kept t zero all u low high = absurd (omega arith)
+  within-kept t (suc n) all u low high =
+      let first = leb (length (cellsOf t records)) (numberAt 2 s (settingPlace t)) in
+      let others = withinQuotas (suc t) (eachFrom (settingAt s) (suc t) n) records in
+      either (eqb u t)
+      (λ same. rw (eqb-true u t same) (leb-true _ _ (and-first first others all)))
+      (λ other. let apart : u ≡ t → ⊥ = eqb-false u t other in
+      within-kept (suc t) n (and-second first others all) u (omega arith) (omega arith))
 
-  pub quota-kept : held t ≤ quota → quotaTest held s t ≡ true
-  quota-kept low = tested ∙ le-leb (held t) quota low
-
--- the test on bytes is the test of what the bytes say
-pub quotas-tested : (held : ℕ → ℕ) (records : List BookRecord) → ((u : ℕ) → held u ≡ length (cellsOf u records)) → (s : List ℕ) (t n : ℕ)
-    → allFrom (quotaTest held s) t n ≡ withinQuotas t (eachFrom (settingAt s) t n) records
-unfolding allFrom quotaTest withinQuotas eachFrom settingAt
-quotas-tested held records same s t zero = refl
-quotas-tested held records same s t (suc n) = rw (same t, quotas-tested held records same s (suc t) n)
+  pub kept-within : (t n : ℕ) → ((u : ℕ) → t ≤ u → u < t + n → Kept u) → withinQuotas t (eachFrom (settingAt s) t n) records ≡ true
+  unfolding withinQuotas eachFrom settingAt
+  kept-within t zero kept = refl
+  kept-within t (suc n) kept =
+      rw (
+        le-leb (length (cellsOf t records)) (numberAt 2 s (settingPlace t)) (kept t (omega arith) (omega arith)),
+        kept-within (suc t) n (λ u low high. kept u (omega arith) (omega arith)),
+      )

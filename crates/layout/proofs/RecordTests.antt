@@ -1,174 +1,137 @@
--- The test of one record, and how the records are tested and counted one after the other.
+-- The test of one record: what its bytes say, and how its two halves are made.
 -- Assumes nothing.
-use mathlib.Core.Path.{_≡_, refl, sym, ap, ap₂, _∙_}
-use mathlib.Core.Bool.{Bool, true, false, cond, _&&_}
+use mathlib.Core.Path.{_≡_, refl, sym, ap, _∙_}
+use mathlib.Core.Bool.{Bool, true, false, _&&_}
 use mathlib.Core.List.{List}
-use Prim.Native.Nat.{ℕ, zero, suc, _+_, _-_, _%_, _≤_, _<_}
-use native.Mathlib.Numerals.{add-one}
+use Prim.Native.Nat.{ℕ, _+_, _*_, _^_, _≤_, _<_}
 use native.Mathlib.Omega.{arith}
-use borrow.Author.Tests.{le-leb, lt-leb, leb-true, leb-false, ltb-true, lt-ltb, eqb-true, eqb-false}
+use borrow.Author.Tests.{le-leb, lt-leb, leb-true, ltb-true, lt-ltb, le-ltb, eqb-true, eq-eqb}
+use lib.Bits.{bitOr, or-lt, or-add-and, and-le-l, and-le-r}
 use lib.Dec.{leb, ltb, eqb}
-use lib.ListN.{length, getD, set, replicate, getD-replicate, length-replicate, length-set}
-use lib.Seq.{getD-set-same, getD-set-other}
+use lib.ListN.{length, getD}
 use Rattle.bytes.specs.Numbers.{Below}
 use Rattle.bytes.specs.Places.{numberAt}
-use Rattle.bytes.proofs.Every.{either, same-tests}
-use Rattle.bytes.proofs.Places.{number-beyond, number-join, number-at-below}
+use Rattle.bytes.proofs.Every.{and-first, and-second, same-tests}
+use Rattle.bytes.proofs.Places.{number-join, number-at-below}
 use Rattle.forms.specs.Identifiers.{isCellName}
-use Rattle.tenants.specs.Rules.{isTenant}
-use Rattle.tenants.specs.Together.{names, fullName}
-use Rattle.layout.specs.Layout.{recordSize, settingPlace, recordPlace, usedLength}
-use Rattle.layout.specs.Judging.{recordPart, aboveTest, recordTest, recordTests, heldFrom, allFrom, quotaTest, recordsTest}
-use Rattle.layout.proofs.Parts.{number-in-part, first-byte}
-use Rattle.layout.proofs.AllFrom.{same-all}
+use Rattle.tenants.specs.Rules.{isTenant, isHeld}
+use Rattle.tenants.specs.Together.{fullName, tenantOf, nameOf, isRecord}
+use Rattle.layout.specs.Layout.{recordSize, recordPlace, recordAt}
+use Rattle.layout.specs.Judging.{cellTest, spareOf, recordTest}
+use Rattle.text.specs.Texts.{part}
+use Rattle.layout.proofs.Told.{byte-number}
+use Rattle.layout.proofs.Parts.{number-in-part, byte-in-part}
 
--- full names go by tenant and then by name
-module _ (t cell tenant name : ℕ) where
-  pub above-by-name : t ≡ tenant → ltb name cell ≡ aboveTest t cell tenant name
-  unfolding aboveTest
-  above-by-name e =
-      same-tests (ltb name cell) (ltb (fullName tenant name) (fullName t cell))
-      (λ low. lt-ltb (fullName tenant name) (fullName t cell) (omega (arith, ltb-true name cell low)))
-      (λ low. lt-ltb name cell (omega (arith, ltb-true (fullName tenant name) (fullName t cell) low)))
+module _ (p : List ℕ) (name cell : ℕ) (is : cell ≡ numberAt 8 p 1) (edition : ℕ) (then : edition ≡ numberAt 2 p 9) where
+  opened : cellTest p name ≡ (ltb name cell && isCellName cell && (leb 1 edition && leb edition 999))
+  unfolding cellTest
+  opened = rw (is, then)
 
-  pub above-by-tenant : cell < names → name < names → (t ≡ tenant → ⊥) → ltb tenant t ≡ aboveTest t cell tenant name
-  unfolding aboveTest
-  above-by-tenant small smaller apart =
-      same-tests (ltb tenant t) (ltb (fullName tenant name) (fullName t cell))
-      (λ low. lt-ltb (fullName tenant name) (fullName t cell) (omega (arith, ltb-true tenant t low)))
-      (λ low. lt-ltb tenant t (omega (arith, ltb-true (fullName tenant name) (fullName t cell) low)))
+  pub not-above : cell ≤ name → cellTest p name ≡ false
+  not-above low = opened ∙ rw (le-ltb name cell low)
 
-module _ (p : List ℕ) (tenant name t : ℕ) (first : t ≡ getD p 0 0) (cell : ℕ) (next : cell ≡ numberAt 8 p 1)
-    (edition : ℕ) (then : edition ≡ numberAt 2 p 9) where
-  opened : recordTest p tenant name
-      ≡ (leb t 15 && aboveTest t cell tenant name && isCellName cell && (leb 1 edition && leb edition 999) && eqb (numberAt 3 p 21) 0)
-  unfolding recordTest isTenant
-  opened = rw (first, next, then)
+  module _ (above : name < cell) (good : Bool) (is-good : good ≡ isCellName cell) where
+    pub no-name : good ≡ false → cellTest p name ≡ false
+    no-name bad = opened ∙ rw (lt-ltb name cell above, sym is-good ∙ bad)
 
-  pub no-tenant : 15 < t → recordTest p tenant name ≡ false
-  no-tenant high = opened ∙ rw (lt-leb t 15 high)
+    pub edition-below : good ≡ true → edition < 1 → cellTest p name ≡ false
+    edition-below named small = opened ∙ rw (lt-ltb name cell above, sym is-good ∙ named, lt-leb 1 edition small)
 
-  module _ (low : t ≤ 15) (above : Bool) (is-above : above ≡ aboveTest t cell tenant name) where
-    pub not-above : above ≡ false → recordTest p tenant name ≡ false
-    not-above below = opened ∙ rw (le-leb t 15 low, sym is-above ∙ below)
+    pub by-edition : good ≡ true → 1 ≤ edition → leb edition 999 ≡ cellTest p name
+    by-edition named one = sym (opened ∙ rw (lt-ltb name cell above, sym is-good ∙ named, le-leb 1 edition one))
 
-    module _ (higher : above ≡ true) (good : Bool) (is-good : good ≡ isCellName cell) where
-      pub no-name : good ≡ false → recordTest p tenant name ≡ false
-      no-name bad = opened ∙ rw (le-leb t 15 low, sym is-above ∙ higher, sym is-good ∙ bad)
+-- bytes taken together are below 256 exactly where each is
+pub or-spare : (a b : ℕ) → leb (bitOr a b) 255 ≡ (leb a 255 && leb b 255)
+or-spare a b =
+    same-tests (leb (bitOr a b) 255) (leb a 255 && leb b 255)
+    (λ both. let h : bitOr a b ≤ 255 = leb-true _ _ both in
+    rw (le-leb a 255 (omega (arith, or-add-and a b, and-le-r a b)), le-leb b 255 (omega (arith, or-add-and a b, and-le-l a b))))
+    (λ each. let x : a ≤ 255 = leb-true a 255 (and-first (leb a 255) (leb b 255) each) in
+    let y : b ≤ 255 = leb-true b 255 (and-second (leb a 255) (leb b 255) each) in
+    le-leb (bitOr a b) 255 (omega (arith, or-lt 8 a b (omega arith) (omega arith))))
 
-      module _ (named : good ≡ true) where
-        pub edition-below : edition < 1 → recordTest p tenant name ≡ false
-        edition-below small = opened ∙ rw (le-leb t 15 low, sym is-above ∙ higher, sym is-good ∙ named, lt-leb 1 edition small)
+other-order : (a h c e z : Bool) → a ≡ true → (h && c && e && z) ≡ (a && (c && e && true && true) && (h && z))
+other-order true true true true z is = refl
+other-order true true true false z is = refl
+other-order true true false e z is = refl
+other-order true false true true z is = refl
+other-order true false true false z is = refl
+other-order true false false e z is = refl
+other-order false h c e z is = cc
 
-        pub edition-beyond : 1 ≤ edition → 999 < edition → recordTest p tenant name ≡ false
-        edition-beyond one large =
-            opened ∙ rw (le-leb t 15 low, sym is-above ∙ higher, sym is-good ∙ named, le-leb 1 edition one, lt-leb edition 999 large)
+-- within one tenant full names go by name
+by-name : (t name cell : ℕ) → ltb name cell ≡ ltb (fullName t name) (fullName t cell)
+by-name t name cell =
+    same-tests (ltb name cell) (ltb (fullName t name) (fullName t cell))
+    (λ low. lt-ltb (fullName t name) (fullName t cell) (omega (arith, ltb-true name cell low)))
+    (λ low. lt-ltb name cell (omega (arith, ltb-true (fullName t name) (fullName t cell) low)))
 
-        pub by-zeros : 1 ≤ edition → edition ≤ 999 → Below 256 p → (word : ℕ) → word ≡ numberAt 4 p 20
-            → eqb (word % 16777216) 0 ≡ recordTest p tenant name
-        by-zeros one large below word is =
-            sym (opened
-            ∙ rw (le-leb t 15 low, sym is-above ∙ higher, sym is-good ∙ named, le-leb 1 edition one, le-leb edition 999 large)
-            (ap (λ (x : ℕ). eqb x 0) (sym last-three)))
-          where
-            last-three : word % 16777216 ≡ numberAt 3 p 21
-            last-three =
-                either (leb 24 (length p))
-                (λ there. omega (arith, is, number-join 1 3 p 20 (leb-true 24 (length p) there), number-at-below 3 p 21 below))
-                (λ short. let h : length p < 24 = leb-false 24 (length p) short in
-                omega (arith, is, number-beyond 4 p 20 h, number-beyond 3 p 21 h))
+module _ (s : List ℕ) (below : Below 256 s) (i : ℕ) (inside : recordPlace i + recordSize ≤ length s) where
+  abbrev bytes : List ℕ
+  bytes = part recordSize s (recordPlace i)
 
-pub tenant-low : (p : List ℕ) (tenant name : ℕ) → recordTest p tenant name ≡ true → getD p 0 0 ≤ 15
-unfolding recordTest isTenant
-tenant-low p tenant name right =
-    leb-true (getD p 0 0) 15 (either (leb (getD p 0 0) 15) (λ low. low) (λ high. cc (rw high at right)))
+  pub full-name : recordAt s i .name ≡ fullName (getD s (recordPlace i) 0) (numberAt 8 s (recordPlace i + 1))
+  unfolding recordAt
+  full-name =
+      number-join 1 8 s (recordPlace i) (omega arith)
+      ∙ ap (λ (t : ℕ). fullName t (numberAt 8 s (recordPlace i + 1))) (byte-number s (recordPlace i))
 
-held-few : (s : List ℕ) (t i n : ℕ) → heldFrom s t i n ≤ n
-unfolding heldFrom
-held-few s t i zero = omega arith
-held-few s t i (suc n) =
-    either (eqb (getD s (recordPlace i) 0) t)
-    (λ its. rw its (omega (arith, held-few s t (suc i) n)))
-    (λ not. rw not (omega (arith, held-few s t (suc i) n)))
+  pub tenant-is : tenantOf (recordAt s i) ≡ getD s (recordPlace i) 0
+  tenant-is = omega (arith, full-name, number-at-below 8 s (recordPlace i + 1) below)
 
-module _ (s : List ℕ) (n : ℕ) where
-  -- i records are right and counted, the last of them is of this tenant and name, and the others are left
-  pub record RecordsFrom (counts : List ℕ) (tenant name i : ℕ) : Type 0 where
-    pub count : i ≤ n
-    pub sixteen : length counts ≡ 16
-    pub same : recordTests s 0 0 0 n ≡ recordTests s tenant name i (n - i)
-    pub held : (t : ℕ) → t < 16 → getD counts t 0 + heldFrom s t i (n - i) ≡ heldFrom s t 0 n
+  name-is : nameOf (recordAt s i) ≡ numberAt 8 s (recordPlace i + 1)
+  name-is = omega (arith, full-name, number-at-below 8 s (recordPlace i + 1) below)
 
-  pub records-start : RecordsFrom (replicate 16 0) 0 0 0
-  records-start =
-      let all : n - 0 ≡ n = omega arith in
-      record {
-        count = omega arith;
-        sixteen = length-replicate {A = ℕ} 16 0;
-        same = rw all refl;
-        held = λ t h. rw all (omega (arith, getD-replicate {A = ℕ} 16 t 0 0 h));
-      }
+  edition-is : recordAt s i .edition ≡ numberAt 2 s (recordPlace i + 9)
+  unfolding recordAt
+  edition-is = refl
 
-  module _ {counts : List ℕ} {tenant name i : ℕ} (from : RecordsFrom counts tenant name i) where
-    pub counted-few : (t : ℕ) → t < 16 → getD counts t 0 ≤ n
-    counted-few t h = omega (arith, from .held t h, held-few s t 0 n)
+  key-one : recordAt s i .key1 < 256 ^ 5
+  unfolding recordAt
+  key-one = number-at-below 5 s (recordPlace i + 11) below
 
-    pub records-end : n ≤ i → allFrom (quotaTest (λ (t : ℕ). getD counts t 0) s) 0 16 ≡ recordsTest s n
-    unfolding recordsTest recordTests heldFrom quotaTest
-    records-end done =
-        let none : n - i ≡ 0 = omega arith in
-        sym (ap (λ (b : Bool). b && allFrom (quotaTest (λ (t : ℕ). heldFrom s t 0 n) s) 0 16) (rw none at (from .same))
-        ∙ sym (same-all (quotaTest (λ (t : ℕ). getD counts t 0) s) (quotaTest (λ (t : ℕ). heldFrom s t 0 n) s) 0 16
-        (λ t low high. let all : getD counts t 0 + 0 ≡ heldFrom s t 0 n = rw none at (from .held t high) in
-        let same : getD counts t 0 ≡ heldFrom s t 0 n = omega arith in
-        ap (λ (k : ℕ). leb k (numberAt 2 s (settingPlace t))) same)))
+  key-two : recordAt s i .key2 < 256 ^ 5
+  unfolding recordAt
+  key-two = number-at-below 5 s (recordPlace i + 16) below
 
-    module _ (more : i < n) where
-      left : n - i ≡ suc (n - (i + 1))
-      left = omega arith
+  spare-is : leb (spareOf bytes) 255 ≡ eqb (numberAt 3 s (recordPlace i + 21)) 0
+  unfolding spareOf
+  spare-is =
+      let at = recordPlace i in
+      let zeros = numberAt 3 s (at + 21) in
+      let b = byte-in-part recordSize s at inside in
+      let second : at + 21 + 1 ≡ at + 22 = omega arith in
+      let third : at + 22 + 1 ≡ at + 23 = omega arith in
+      let joined : zeros ≡ numberAt 1 s (at + 21) * 256 ^ 2 + numberAt 2 s (at + 22) =
+      number-join 1 2 s (at + 21) (omega arith) ∙ ap (λ (k : ℕ). numberAt 1 s (at + 21) * 256 ^ 2 + numberAt 2 s k) second in
+      let last : numberAt 2 s (at + 22) ≡ numberAt 1 s (at + 22) * 256 ^ 1 + numberAt 1 s (at + 23) =
+      number-join 1 1 s (at + 22) (omega arith) ∙ ap (λ (k : ℕ). numberAt 1 s (at + 22) * 256 ^ 1 + numberAt 1 s k) third in
+      let fits = number-at-below 1 s (at + 20) below in
+      same-tests (leb (spareOf bytes) 255) (eqb zeros 0)
+      (λ low. eq-eqb zeros 0 (omega (arith, leb-true (spareOf bytes) 255 low, b 21 (omega arith), b 22 (omega arith), b 23 (omega arith), joined, last)))
+      (λ none. let e : zeros ≡ 0 = eqb-true zeros 0 none in
+      le-leb (spareOf bytes) 255 (omega (arith, b 20 (omega arith), b 21 (omega arith), b 22 (omega arith), b 23 (omega arith), joined, last, fits)))
 
-      first-test : recordTests s 0 0 0 n
-          ≡ (recordTest (recordPart s i) tenant name
-          && recordTests s (getD s (recordPlace i) 0) (numberAt 8 s (recordPlace i + 1)) (i + 1) (n - (i + 1)))
-      unfolding recordTests
-      first-test = rw (left, sym (add-one i)) at (from .same)
-
-      pub record-wrong : recordTest (recordPart s i) tenant name ≡ false → recordsTest s n ≡ false
-      unfolding recordsTest
-      record-wrong wrong = ap (λ (b : Bool). b && allFrom (quotaTest (λ (t : ℕ). heldFrom s t 0 n) s) 0 16) (rw wrong at first-test)
-
-      -- with the tenant and the name as they were read of the part
-      module _ (within : usedLength n ≤ length s) (right : recordTest (recordPart s i) tenant name ≡ true) (t cell : ℕ)
-          (is : t ≡ getD (recordPart s i) 0 0) (named : cell ≡ numberAt 8 (recordPart s i) 1) where
-        inside : recordPlace i + recordSize ≤ length s
-        inside = omega arith
-
-        byte : t ≡ getD s (recordPlace i) 0
-        byte = is ∙ first-byte recordSize s (recordPlace i) inside (omega arith)
-
-        pub one-of-sixteen : t ≤ 15
-        one-of-sixteen = omega (arith, is, tenant-low _ tenant name right)
-
-        one-more : (u : ℕ) → getD (set counts t (getD counts t 0 + 1)) u 0 ≡ getD counts u 0 + cond (eqb (getD s (recordPlace i) 0) u) 1 0
-        one-more u =
-            either (eqb t u)
-            (λ mine. let e : t ≡ u = eqb-true t u mine in
-            rw (sym byte, mine, sym e) (getD-set-same counts t (getD counts t 0 + 1) 0 (omega (arith, one-of-sixteen, from .sixteen))))
-            (λ other. rw (sym byte, other) (getD-set-other counts t u (getD counts t 0 + 1) 0 (λ e. eqb-false t u other (sym e)) ∙ omega arith))
-
-        was : (u : ℕ) → u < 16
-            → getD counts u 0 + (cond (eqb (getD s (recordPlace i) 0) u) 1 0 + heldFrom s u (i + 1) (n - (i + 1))) ≡ heldFrom s u 0 n
-        unfolding heldFrom
-        was u h = rw (left, sym (add-one i)) at (from .held u h)
-
-        pub records-next : RecordsFrom (set counts t (getD counts t 0 + 1)) t cell (i + 1)
-        records-next =
-            record {
-              count = omega arith;
-              sixteen = simp length-set (omega (arith, from .sixteen));
-              same =
-                  rw right at first-test
-                  ∙ ap₂ (λ (b x : ℕ). recordTests s b x (i + 1) (n - (i + 1))) (sym byte)
-                  (sym (named ∙ number-in-part recordSize s (recordPlace i) inside 8 1 (omega arith)));
-              held = λ u h. omega (arith, one-more u, was u h);
-            }
+  -- the bytes of tenant t's record pass exactly where what they say is right and above, and three zeros end them
+  pub record-tested : (t name : ℕ) → getD s (recordPlace i) 0 ≡ t → t ≤ 15 → recordTest bytes name
+      ≡ (isRecord (recordAt s i) && (ltb (fullName t name) (recordAt s i .name) && eqb (numberAt 3 s (recordPlace i + 21)) 0))
+  unfolding cellTest isRecord isHeld isTenant
+  record-tested t name its low =
+      rw (
+        number-in-part recordSize s (recordPlace i) inside 8 1 (omega arith),
+        number-in-part recordSize s (recordPlace i) inside 2 9 (omega arith),
+        spare-is,
+        tenant-is,
+        name-is,
+        edition-is,
+        lt-ltb (recordAt s i .key1) (256 ^ 5) key-one,
+        lt-ltb (recordAt s i .key2) (256 ^ 5) key-two,
+        full-name,
+        its,
+        by-name t name (numberAt 8 s (recordPlace i + 1)),
+      )
+      (other-order (leb t 15)
+      (ltb (fullName t name) (fullName t (numberAt 8 s (recordPlace i + 1))))
+      (isCellName (numberAt 8 s (recordPlace i + 1)))
+      (leb 1 (numberAt 2 s (recordPlace i + 9)) && leb (numberAt 2 s (recordPlace i + 9)) 999)
+      (eqb (numberAt 3 s (recordPlace i + 21)) 0) (le-leb t 15 low))

@@ -1,11 +1,11 @@
--- The tests of the bytes, one after the other, hold exactly of an undamaged book.
+-- The tests of the bytes, all together, hold exactly of an undamaged book; and then the parts begin where each tenant's records start.
 -- Assumes nothing.
 use mathlib.Core.Path.{_≡_, sym, ap, _∙_}
 use mathlib.Core.Bool.{Bool, true, false, _&&_}
 use mathlib.Core.List.{List}
-use Prim.Native.Nat.{ℕ, _+_, _≤_, _<_}
+use Prim.Native.Nat.{ℕ, _+_, _-_, _≤_, _<_}
 use native.Mathlib.Omega.{arith}
-use borrow.Author.Tests.{le-leb, eq-eqb}
+use borrow.Author.Tests.{le-leb, leb-true, eq-eqb, eqb-true}
 use lib.Dec.{leb, eqb}
 use lib.ListN.{length, getD, drop}
 use Rattle.bytes.specs.Numbers.{Below}
@@ -14,130 +14,184 @@ use Rattle.bytes.specs.Places.{numberAt}
 use Rattle.bytes.proofs.Every.{and-first, and-second, either, same-tests}
 use Rattle.text.specs.Texts.{sameText}
 use Rattle.text.proofs.SameTexts.{same-refl}
-use Rattle.tenants.specs.Cells.{startsAbove}
-use Rattle.tenants.specs.Together.{fullName, areSettings, quotaSum, areRecords, withinQuotas, isGood}
-use Rattle.layout.specs.Layout.{bookSize, usedLength, recordCount, settingPlace, recordPlace, settingAt, recordAt, eachFrom, bookOf, isBook}
-use Rattle.layout.specs.Judging.{isZero, allFrom, settingsTest, recordTests, heldFrom, quotaTest, recordsTest}
+use Rattle.tenants.specs.declared.Setting.{Setting}
+use Rattle.tenants.specs.Together.{BookRecord, areSettings, quotaSum, areRecords, withinQuotas, isGood}
+use Rattle.layout.specs.Layout.{recordsPlace, bookSize, usedLength, recordCount, settingPlace, recordPlace, settingAt, recordAt, eachFrom, bookOf, isBook}
+use Rattle.layout.specs.Starts.{startOf, firstIn}
+use Rattle.layout.specs.Judging.{isZero, allFrom, settingsTest, frameTest, partsFrom}
+use Rattle.layout.specs.declared.Part.the-variants.{Ends}
 use Rattle.layout.proofs.Promises.{undamaged-says}
 use Rattle.layout.proofs.Each.{each-count}
 use Rattle.layout.proofs.Frame.{Frame, frame-written, book-frame}
 use Rattle.layout.proofs.Zeros.{zeros-each, each-zero}
 use Rattle.layout.proofs.SettingTests.{testAt, tests-settings, settings-tests}
-use Rattle.layout.proofs.QuotaTests.{quotas-tested}
-use Rattle.layout.proofs.TestedRecords.{first-above, tests-records, records-tests, held-cells}
+use Rattle.layout.proofs.QuotaTests.{within-kept, kept-within}
+use Rattle.layout.proofs.OnePart.{from}
+use Rattle.layout.proofs.AllParts.{PartsSay, parts-say, parts-start}
 
--- what the tests find of an undamaged book, in their order
-pub record Tested (s : List ℕ) : Type 0 where
+-- what the tests of all but the records find, in their order
+pub record Framed (s : List ℕ) : Type 0 where
   pub size : length s ≡ bookSize
   pub version : getD s 0 0 ≡ 1
   pub few : recordCount s ≤ 512
   pub used : numberAt 4 s 1 ≡ usedLength (recordCount s)
   pub settings : settingsTest s ≡ true
-  pub records : recordsTest s (recordCount s) ≡ true
   pub rest : allOf isZero (drop (usedLength (recordCount s)) s) ≡ true
 
-module _ (s : List ℕ) (below : Below 256 s) where
-  abbrev held : ℕ → ℕ
-  held t = heldFrom s t 0 (recordCount s)
-
-  quotas-same : length s ≡ bookSize → recordCount s ≤ 512
-      → allFrom (quotaTest held s) 0 16 ≡ withinQuotas 0 (eachFrom (settingAt s) 0 16) (eachFrom (recordAt s) 0 (recordCount s))
-  quotas-same size few =
-      quotas-tested held (eachFrom (recordAt s) 0 (recordCount s)) (λ t. held-cells s below t 0 (recordCount s) (omega arith)) s 0 16
-
-  pub book-tested : isBook s ≡ true → Tested s
-  unfolding isGood bookOf settingsTest recordsTest
-  book-tested undamaged =
-      let frame = book-frame s undamaged in
-      let h : length s ≡ bookSize = frame .size in
-      let few : recordCount s ≤ 512 = frame .few in
-      let good = undamaged-says s undamaged .0 in
-      let settings = eachFrom (settingAt s) 0 16 in
-      let records = eachFrom (recordAt s) 0 (recordCount s) in
-      let a = eqb (length settings) 16 in
-      let b = areSettings settings in
-      let c = leb (quotaSum settings) 512 in
-      let d = leb (length records) 512 in
-      let e = areRecords records in
-      let first-five = and-first (a && b && c && d && e) (withinQuotas 0 settings records) good in
-      let first-three = and-first (a && b && c) d (and-first (a && b && c && d) e first-five) in
-      let right = and-second (a && b && c && d) e first-five in
-      let right-settings = and-second a b (and-first (a && b) c first-three) in
+module _ (s : List ℕ) where
+  pub frame-facts : frameTest s ≡ true → Framed s
+  unfolding frameTest
+  frame-facts all =
+      let a = eqb (length s) bookSize in
+      let b = eqb (getD s 0 0) 1 in
+      let c = leb (recordCount s) 512 in
+      let d = eqb (numberAt 4 s 1) (usedLength (recordCount s)) in
+      let e = settingsTest s in
+      let f = allOf isZero (drop (usedLength (recordCount s)) s) in
+      let five = and-first (a && b && c && d && e) f all in
+      let four = and-first (a && b && c && d) e five in
+      let three = and-first (a && b && c) d four in
+      let two = and-first (a && b) c three in
       record {
-        size = h;
-        version = frame .version;
-        few = few;
-        used = frame .used;
-        settings =
-            rw (
-              settings-tests s (omega arith) right-settings (frame .settings),
-              and-second (a && b) c first-three,
-            );
-        records =
-            rw
-            (records-tests s below 0 0 0 (recordCount s) (omega arith) right (first-above records right) (λ i low high. frame .records i (omega arith)))
-            (quotas-same h few ∙ and-second (a && b && c && d && e) (withinQuotas 0 settings records) good);
-        rest = each-zero s (usedLength (recordCount s)) (frame .rest);
+        size = eqb-true (length s) bookSize (and-first a b two);
+        version = eqb-true (getD s 0 0) 1 (and-second a b two);
+        few = leb-true (recordCount s) 512 (and-second (a && b) c three);
+        used = eqb-true (numberAt 4 s 1) (usedLength (recordCount s)) (and-second (a && b && c) d four);
+        settings = and-second (a && b && c && d) e five;
+        rest = and-second (a && b && c && d && e) f all;
       }
 
-  pub tested-book : Tested s → isBook s ≡ true
-  unfolding isBook
-  tested-book passed =
-      rw (eq-eqb (length s) bookSize (passed .size), ap (sameText s) (frame-written s below frame) ∙ same-refl s) good
-    where
-      size : length s ≡ bookSize
-      size = passed .size
+  pub framed-test : Framed s → frameTest s ≡ true
+  unfolding frameTest
+  framed-test framed =
+      rw (
+        eq-eqb (length s) bookSize (framed .size),
+        eq-eqb (getD s 0 0) 1 (framed .version),
+        le-leb (recordCount s) 512 (framed .few),
+        eq-eqb (numberAt 4 s 1) (usedLength (recordCount s)) (framed .used),
+        framed .settings,
+      )
+      (framed .rest)
 
-      few : recordCount s ≤ 512
-      few = passed .few
-
-      settings : (areSettings (eachFrom (settingAt s) 0 16) ≡ true) × ((t : ℕ) → t < 16 → getD s (settingPlace t + 5) 0 ≡ 0)
-      settings =
-          tests-settings s (omega arith)
-          (and-first (allFrom (testAt s) 0 16) (leb (quotaSum (eachFrom (settingAt s) 0 16)) 512) (unfold settingsTest in passed .settings))
-
-      tested : recordTests s 0 0 0 (recordCount s) ≡ true
-      tested = and-first (recordTests s 0 0 0 (recordCount s)) (allFrom (quotaTest held s) 0 16) (unfold recordsTest in passed .records)
-
-      records : (areRecords (eachFrom (recordAt s) 0 (recordCount s)) ≡ true)
-          × (startsAbove (fullName 0 0) (eachFrom (recordAt s) 0 (recordCount s)) ≡ true)
-          × ((i : ℕ) → 0 ≤ i → i < 0 + recordCount s → numberAt 3 s (recordPlace i + 21) ≡ 0)
-      records = tests-records s below 0 0 0 (recordCount s) (omega arith) tested
-
-      frame : Frame s
-      frame =
-          record {
-            size = size;
-            version = passed .version;
-            used = passed .used;
-            few = few;
-            settings = settings .1;
-            records = λ i high. records .2 i (omega arith) (omega arith);
-            rest = zeros-each s (usedLength (recordCount s)) (passed .rest);
-          }
-
-      good : isGood (bookOf s) ≡ true
-      good =
-          unfold isGood bookOf in
-          rw (
-            eq-eqb (length (eachFrom (settingAt s) 0 16)) 16 (each-count (settingAt s) 0 16),
-            settings .0,
-            and-second (allFrom (testAt s) 0 16) (leb (quotaSum (eachFrom (settingAt s) 0 16)) 512) (unfold settingsTest in passed .settings),
-            le-leb (length (eachFrom (recordAt s) 0 (recordCount s))) 512 (omega (arith, each-count (recordAt s) 0 (recordCount s))),
-            records .0,
-          )
-          (sym (quotas-same size few)
-          ∙ and-second (recordTests s 0 0 0 (recordCount s)) (allFrom (quotaTest held s) 0 16) (unfold recordsTest in passed .records))
-
-  -- where a test that must be true is false, the bytes are no book
-  pub test-fails : (test : Bool) → (Tested s → test ≡ true) → test ≡ false → isBook s ≡ false
+  -- where a test that must be true is false, or a fact that must be so is not, the frame is wrong
+  pub test-fails : (test : Bool) → (Framed s → test ≡ true) → test ≡ false → frameTest s ≡ false
   test-fails test must fails =
-      either (isBook s) (λ undamaged. undamaged ∙ sym (must (book-tested undamaged)) ∙ fails) (λ damaged. damaged)
+      either (frameTest s) (λ right. right ∙ sym (must (frame-facts right)) ∙ fails) (λ wrong. wrong)
 
-  pub fact-fails : (Tested s → ⊥) → isBook s ≡ false
-  fact-fails never = either (isBook s) (λ undamaged. absurd (never (book-tested undamaged))) (λ damaged. damaged)
+  pub fact-fails : (Framed s → ⊥) → frameTest s ≡ false
+  fact-fails never = either (frameTest s) (λ right. absurd (never (frame-facts right))) (λ wrong. wrong)
 
   -- the last test decides
-  pub last-decides : (last : Bool) → (Tested s → last ≡ true) → (last ≡ true → Tested s) → last ≡ isBook s
+  pub last-decides : (last : Bool) → (Framed s → last ≡ true) → (last ≡ true → Framed s) → last ≡ frameTest s
   last-decides last must enough =
-      same-tests last (isBook s) (λ true-here. tested-book (enough true-here)) (λ undamaged. must (book-tested undamaged))
+      same-tests last (frameTest s) (λ true-here. framed-test (enough true-here)) (λ right. must (frame-facts right))
+
+module _ (s : List ℕ) (below : Below 256 s) where
+  abbrev n : ℕ
+  n = recordCount s
+
+  abbrev settings : List Setting
+  settings = eachFrom (settingAt s) 0 16
+
+  abbrev records : List BookRecord
+  records = eachFrom (recordAt s) 0 n
+
+  module _ (within : usedLength n ≤ length s) where
+    whole : from s below n within 0 ≡ records
+    whole = let all : n - 0 ≡ n = omega arith in ap (eachFrom (recordAt s) 0) all
+
+  -- an undamaged book has the frame, and the parts of the tenants below one end where its records start
+  module _ (undamaged : isBook s ≡ true) where
+    frame : Frame s
+    frame = book-frame s undamaged
+
+    within : usedLength n ≤ length s
+    within = omega (arith, frame .size, frame .few)
+
+    record Said : Type 0 where
+      settings-right : areSettings settings ≡ true
+      sum : leb (quotaSum settings) 512 ≡ true
+      records-right : areRecords records ≡ true
+      quotas : withinQuotas 0 settings records ≡ true
+
+    said : Said
+    unfolding isGood bookOf
+    said =
+        let good = undamaged-says s undamaged .0 in
+        let a = eqb (length settings) 16 in
+        let b = areSettings settings in
+        let c = leb (quotaSum settings) 512 in
+        let d = leb (length records) 512 in
+        let e = areRecords records in
+        let five = and-first (a && b && c && d && e) (withinQuotas 0 settings records) good in
+        let three = and-first (a && b && c) d (and-first (a && b && c && d) e five) in
+        record {
+          settings-right = and-second a b (and-first (a && b) c three);
+          sum = and-second (a && b) c three;
+          records-right = and-second (a && b && c && d) e five;
+          quotas = and-second (a && b && c && d && e) (withinQuotas 0 settings records) good;
+        }
+
+    pub book-framed : Framed s
+    unfolding settingsTest
+    book-framed = record {
+      size = frame .size;
+      version = frame .version;
+      few = frame .few;
+      used = frame .used;
+      settings = rw (settings-tests s (omega (arith, frame .size)) (said .settings-right) (frame .settings), said .sum);
+      rest = each-zero s (usedLength n) (frame .rest);
+    }
+
+    pub book-right : areRecords (bookOf s .records) ≡ true
+    unfolding bookOf
+    book-right = said .records-right
+
+    pub book-parts : (t : ℕ) → t ≤ 16 → partsFrom s (usedLength n) 0 recordsPlace t ≡ Ends (recordPlace (firstIn s t))
+    unfolding bookOf
+    book-parts t low =
+        let same = whole within in
+        parts-start s below n within (ap areRecords same ∙ said .records-right) (frame .records)
+        (λ u h. rw same (within-kept s records 0 16 (said .quotas) u (omega arith) (omega arith))) t low
+        ∙ ap (λ (l : List BookRecord). Ends (recordPlace (startOf t l))) same
+
+  -- and where the frame is right and all parts end with the records, the book is undamaged
+  module _ (framed : Framed s) (parts : partsFrom s (usedLength n) 0 recordsPlace 16 ≡ Ends (usedLength n)) where
+    inside : usedLength n ≤ length s
+    inside = omega (arith, framed .size, framed .few)
+
+    says : PartsSay s below n inside 0 0
+    says = parts-say s below n inside 16 0 0 (omega arith) (omega arith) parts
+
+    tested-settings : (areSettings settings ≡ true) × ((t : ℕ) → t < 16 → getD s (settingPlace t + 5) 0 ≡ 0)
+    tested-settings =
+        tests-settings s (omega (arith, framed .size))
+        (and-first (allFrom (testAt s) 0 16) (leb (quotaSum settings) 512) (unfold settingsTest in framed .settings))
+
+    so-framed : Frame s
+    so-framed = record {
+      size = framed .size;
+      version = framed .version;
+      used = framed .used;
+      few = framed .few;
+      settings = tested-settings .1;
+      records = λ i high. says .zeros i (omega arith) high;
+      rest = zeros-each s (usedLength n) (framed .rest);
+    }
+
+    good : isGood (bookOf s) ≡ true
+    unfolding isGood bookOf
+    good =
+        let same = whole inside in
+        rw (
+          eq-eqb (length settings) 16 (each-count (settingAt s) 0 16),
+          tested-settings .0,
+          and-second (allFrom (testAt s) 0 16) (leb (quotaSum settings) 512) (unfold settingsTest in framed .settings),
+          le-leb (length records) 512 (omega (arith, each-count (recordAt s) 0 n, framed .few)),
+          sym (ap areRecords same) ∙ says .right,
+        )
+        (kept-within s records 0 16 (λ u low high. rw same at (says .kept u low (omega arith))))
+
+    pub tested-book : isBook s ≡ true
+    unfolding isBook
+    tested-book = rw (eq-eqb (length s) bookSize (framed .size), ap (sameText s) (frame-written s below so-framed) ∙ same-refl s) good

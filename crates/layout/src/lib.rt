@@ -1,10 +1,14 @@
 // The book's bytes: what they say, and whether they are an undamaged book.
 ghost use mathlib.Core.Path.{_≡_};
-ghost use Prim.Native.Nat.{_≤_};
-ghost use lib.ListN.{length, getD};
+ghost use mathlib.Core.Bool.{cond};
+ghost use Prim.Native.Nat.{_-_, _/_, _%_, _≤_};
+ghost use lib.Dec.{leb};
+ghost use lib.ListN.{length};
 ghost use Rattle.bytes.specs.Every.{allOf};
-ghost use Rattle.layout.specs.Layout.{recordsPlace, usedLength, recordCount, settingAt, isBook};
-ghost use Rattle.layout.specs.Judging.{isZero, allFrom, settingTest, settingsTest, aboveTest, recordTest, quotaTest, recordsTest};
+ghost use Rattle.layout.specs.Layout.{recordsPlace, recordSize, bookSize, recordCount, settingAt, isBook};
+ghost use Rattle.layout.specs.Starts.{judged};
+ghost use Rattle.layout.specs.Judging.{isZero, settingTest, settingsTest, frameTest, cellTest, spareOf, partFrom, partsFrom, upTo16};
+ghost use Rattle.layout.specs.declared.Part.the-variants.{Ends, Wrong};
 use bytes::numbers::number16;
 use bytes::numbers::number32;
 use bytes::numbers::number64;
@@ -106,78 +110,9 @@ fn are_settings(book: &[u8]) -> bool
     sum <= 512
 }
 
-// Whether tenant t's cell goes after that of a tenant and name: by tenant, and then by name.
-fn is_above(t: u8, cell: u64, tenant: u8, name: u64) -> bool
-    ensures { λ r. ⌜ r ≡ aboveTest t cell tenant name ⌝ }
-{
-    if t == tenant { name < cell } else { tenant < t }
-}
-
-// Whether the bytes of a record are right, after the record of this tenant and name.
-fn is_record(part: &[u8], tenant: u8, name: u64) -> bool
-    ensures { λ r. ⌜ r ≡ recordTest (now (part .entry)) tenant name ⌝ }
-{
-    let t = byte_at(part, 0);
-    let cell = number64(part, 1);
-    let edition = number16(part, 9);
-    if 15 < t {
-        return false;
-    }
-    if !is_above(t, cell, tenant, name) {
-        return false;
-    }
-    if !is_cell_name(cell) {
-        return false;
-    }
-    if edition < 1 {
-        return false;
-    }
-    if 999 < edition {
-        return false;
-    }
-    number32(part, 20) % 0x100_0000 == 0
-}
-
-// Whether no tenant holds more than its quota.
-fn are_within(book: &[u8], counts: &[u16; 16]) -> bool
-    ensures { λ r. ⌜ r ≡ allFrom (quotaTest (λ t. getD (now (counts .entry)) t 0) (now (book .entry))) 0 16 ⌝ }
-{
-    let mut t: usize = 0;
-    while t < 16 {
-        if number16(book, SETTINGS_PLACE + SETTING_SIZE * t) < counts[t] {
-            return false;
-        }
-        t += 1;
-    }
-    true
-}
-
-// Whether the n records are right and rise, and no tenant holds more than its quota.
-fn are_records(book: &[u8], n: usize) -> bool
-    requires { ⌜ (n ≤ 512) × (usedLength n ≤ length (now book)) ⌝ }
-    ensures { λ r. ⌜ r ≡ recordsTest (now (book .entry)) n ⌝ }
-{
-    let mut counts = [0u16; 16];
-    let mut tenant: u8 = 0;
-    let mut name: u64 = 0;
-    let mut i: usize = 0;
-    while i < n {
-        let at = RECORDS_PLACE + RECORD_SIZE * i;
-        let part = &book[at..at + RECORD_SIZE];
-        if !is_record(part, tenant, name) {
-            return false;
-        }
-        tenant = byte_at(part, 0);
-        name = number64(part, 1);
-        counts[tenant as usize] += 1;
-        i += 1;
-    }
-    are_within(book, &counts)
-}
-
-// Whether the bytes are an undamaged book.
-pub fn is_book(book: &[u8]) -> bool
-    ensures { λ r. ⌜ r ≡ isBook (now (book .entry)) ⌝ }
+// Whether all but the records is right: length, version, used length, settings, and zeros past the used length.
+fn is_frame(book: &[u8]) -> bool
+    ensures { λ r. ⌜ r ≡ frameTest (now (book .entry)) ⌝ }
 {
     if book.len() != BOOK_SIZE {
         return false;
@@ -195,8 +130,152 @@ pub fn is_book(book: &[u8]) -> bool
     if !are_settings(book) {
         return false;
     }
-    if !are_records(book, n) {
+    is_zero(&book[RECORDS_PLACE + RECORD_SIZE * n..])
+}
+
+// Whether the bytes of a record's cell are right, after the record of this name.
+fn is_cell(part: &[u8], name: u64) -> bool
+    ensures { λ r. ⌜ r ≡ cellTest (now (part .entry)) name ⌝ }
+{
+    let cell = number64(part, 1);
+    let edition = number16(part, 9);
+    if cell <= name {
         return false;
     }
-    is_zero(&book[RECORDS_PLACE + RECORD_SIZE * n..])
+    if !is_cell_name(cell) {
+        return false;
+    }
+    if edition < 1 {
+        return false;
+    }
+    edition <= 999
+}
+
+// The last four bytes of a record, the last first, so that one load takes them as they lie.
+fn spare_of(part: &[u8]) -> u32
+    ensures { λ r. ⌜ r ≡ spareOf (now (part .entry)) ⌝ }
+{
+    byte_at(part, 20) as u32
+        + byte_at(part, 21) as u32 * 256
+        + byte_at(part, 22) as u32 * 65536
+        + byte_at(part, 23) as u32 * 16777216
+}
+
+// Where tenants' parts of the records end, or that something in them is wrong.
+enum Part {
+    Ends(usize),
+    Wrong,
+}
+
+// A part that ends at a place, with the spare bytes of its records taken together.
+fn ended(at: usize, spare: u32) -> Part
+    ensures { λ r. ⌜ r ≡ cond (leb spare 255) (Ends at) Wrong ⌝ }
+{
+    if 255 < spare {
+        Part::Wrong
+    } else {
+        Part::Ends(at)
+    }
+}
+
+// Where tenant t's part ends: a record either is t's, and then its name is above the one before, or ends the part.
+fn part_from(book: &[u8], t: u8, first: usize, used: usize) -> Part
+    requires { ⌜ (first ≤ used) × (used ≤ length (now book)) × ((used - first) % recordSize ≡ 0) ⌝ }
+    ensures { λ r. ⌜ r ≡ partFrom (now (book .entry)) t 0 first ((used - first) / recordSize) ⌝ }
+{
+    let mut name: u64 = 0;
+    let mut spare: u32 = 0;
+    let mut at = first;
+    while at < used {
+        let part = &book[at..at + RECORD_SIZE];
+        if byte_at(part, 0) != t {
+            return ended(at, spare);
+        }
+        if !is_cell(part, name) {
+            return Part::Wrong;
+        }
+        name = number64(part, 1);
+        spare = spare | spare_of(part);
+        at += RECORD_SIZE;
+    }
+    ended(at, spare)
+}
+
+// Where the parts of the tenants from one up to another end; each is held to its tenant's quota where it ends.
+fn parts_from(book: &[u8], from: u32, to: u32, first: usize, used: usize) -> Part
+    requires { ⌜ (from ≤ to) × (to ≤ 16) ⌝ }
+    requires { ⌜ (first ≤ used) × (used ≤ length (now book)) × ((used - first) % recordSize ≡ 0) ⌝ }
+    ensures { λ r. ⌜ r ≡ partsFrom (now (book .entry)) used from first (to - from) ⌝ }
+{
+    let mut at = first;
+    let mut t = from;
+    while t < to {
+        let Part::Ends(end) = part_from(book, t as u8, at, used) else {
+            return Part::Wrong;
+        };
+        let quota = number16(book, SETTINGS_PLACE + SETTING_SIZE * t as usize) as usize;
+        if RECORD_SIZE * quota < end - at {
+            return Part::Wrong;
+        }
+        at = end;
+        t += 1;
+    }
+    Part::Ends(at)
+}
+
+// A tenant's number, or 16.
+fn up_to_16(t: u32) -> u32
+    ensures { λ r. ⌜ r ≡ upTo16 t ⌝ }
+{
+    if t < 16 { t } else { 16 }
+}
+
+// The record that stands at a place.
+fn record_at(place: usize) -> u32
+    requires { ⌜ place ≤ bookSize ⌝ }
+    ensures { λ r. ⌜ r ≡ (place - recordsPlace) / recordSize ⌝ }
+{
+    if place < RECORDS_PLACE {
+        0
+    } else {
+        ((place - RECORDS_PLACE) / RECORD_SIZE) as u32
+    }
+}
+
+// Judges a book, and tells where a tenant's records stand in it: after the parts of those below, and before those of the others.
+pub fn judge(book: &[u8], tenant: u32) -> Judged
+    ensures { λ r. ⌜ r ≡ judged (now (book .entry)) tenant ⌝ }
+{
+    if !is_frame(book) {
+        return Judged::Damaged;
+    }
+    let used = number32(book, 1) as usize;
+    let own = up_to_16(tenant);
+    let next = up_to_16(own + 1);
+    let Part::Ends(first) = parts_from(book, 0, own, RECORDS_PLACE, used) else {
+        return Judged::Damaged;
+    };
+    let Part::Ends(past) = parts_from(book, own, next, first, used) else {
+        return Judged::Damaged;
+    };
+    let Part::Ends(end) = parts_from(book, next, 16, past, used) else {
+        return Judged::Damaged;
+    };
+    if end != used {
+        return Judged::Damaged;
+    }
+    Judged::Records {
+        first: record_at(first),
+        past: record_at(past),
+    }
+}
+
+// Whether the bytes are an undamaged book.
+pub fn is_book(book: &[u8]) -> bool
+    ensures { λ r. ⌜ r ≡ isBook (now (book .entry)) ⌝ }
+{
+    match judge(book, 0) {
+        Judged::Records { first: _, past: _ } => true,
+        Judged::Damaged => false,
+    }
 }
