@@ -15,17 +15,25 @@ use Rattle.layout.specs.Layout.{recordSize, zeros, recordBytes, usedLength, boo
 use Rattle.records.specs.declared.finding.Found.the-variants.{At, Absent}
 use Rattle.records.specs.Finding.{searched}
 
--- s with the bytes from a place to the used length moved up by k: a gap of k bytes opens at the place
-abbrev pub gapAt : ℕ → ℕ → ℕ → List ℕ → List ℕ
-gapAt k at used s = take (at + k) s ++ (take (used - at) (drop at s) ++ drop (used + k) s)
+-- p with its first n bytes moved up by k: a gap of k bytes opens before them
+abbrev pub movedUp : ℕ → ℕ → List ℕ → List ℕ
+movedUp k n p = take k p ++ (take n p ++ drop (n + k) p)
 
--- s with the bytes that stand k after a place moved down to it, up to another place
-abbrev pub movedDown : ℕ → ℕ → ℕ → List ℕ → List ℕ
-movedDown k at end s = take at s ++ (take (end - at) (drop (at + k) s) ++ drop end s)
+-- p with the n bytes after its first k moved down over those
+abbrev pub movedDown : ℕ → ℕ → List ℕ → List ℕ
+movedDown k n p = take n (drop k p) ++ drop n p
+
+-- p without its first k bytes: the n after them are moved down, and k zeros follow
+abbrev pub firstRemoved : ℕ → ℕ → List ℕ → List ℕ
+firstRemoved k n p = take n (drop k p) ++ (zeros k ++ drop (n + k) p)
+
+-- s with the bytes from a place to the used length moved up by k
+abbrev pub gapAt : ℕ → ℕ → ℕ → List ℕ → List ℕ
+gapAt k at used s = take at s ++ movedUp k (used - at) (drop at s)
 
 -- s without the k bytes at a place: those after them, to the used length, are moved down, and k zeros follow
 abbrev pub gapClosed : ℕ → ℕ → ℕ → List ℕ → List ℕ
-gapClosed k at used s = take at s ++ (take (used - (at + k)) (drop (at + k) s) ++ (zeros k ++ drop used s))
+gapClosed k at used s = take at s ++ firstRemoved k (used - k - at) (drop at s)
 
 -- s with this used length
 abbrev pub usedPut : ℕ → List ℕ → List ℕ
