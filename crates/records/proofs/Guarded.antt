@@ -41,7 +41,9 @@ module _ (s : List ℕ) (n i : ℕ) (told : n ≡ recordCount s) where
         let size : usedLength n + recordSize ≡ usedLength (suc n) = omega arith in
         let fits : usedLength (suc (recordCount s)) ≤ length s = omega arith in
         rw (le-leb i (recordCount s) (omega arith), le-leb (usedLength (suc (recordCount s))) (length s) fits)
-        (e₃ ∙ ap₂ usedPut size (e₂ ∙ ap (recordPut i r) (part-changed (movedUp recordSize (usedLength n - recordPlace i)) (recordPlace i) p s e₁)) ∙ ap (λ (m : ℕ). insertedAmong m i r s) told)
+        (e₃
+        ∙ ap₂ usedPut size (e₂ ∙ ap (recordPut i r) (part-changed (movedUp recordSize (usedLength n - recordPlace i)) (recordPlace i) p s e₁))
+        ∙ ap (λ (m : ℕ). insertedAmong m i r s) told)
 
     pub put-too-far : n < i → s ≡ recordInserted i r s
     unfolding recordInserted
@@ -62,7 +64,9 @@ module _ (s : List ℕ) (n i : ℕ) (told : n ≡ recordCount s) where
       let size : usedLength n - recordSize ≡ usedLength (n - 1) = omega arith in
       let fits : usedLength (recordCount s) ≤ length s = omega arith in
       rw (lt-ltb i (recordCount s) (omega arith), le-leb (usedLength (recordCount s)) (length s) fits)
-      (e₂ ∙ ap₂ usedPut size (part-changed (firstRemoved recordSize (usedLength n - recordSize - recordPlace i)) (recordPlace i) p s e₁) ∙ ap (λ (m : ℕ). removedAmong m i s) told)
+      (e₂
+      ∙ ap₂ usedPut size (part-changed (firstRemoved recordSize (usedLength n - recordSize - recordPlace i)) (recordPlace i) p s e₁)
+      ∙ ap (λ (m : ℕ). removedAmong m i s) told)
 
   pub none-there : n ≤ i → s ≡ recordRemoved i s
   unfolding recordRemoved

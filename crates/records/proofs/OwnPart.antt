@@ -50,7 +50,7 @@ unfolding placeOf
 none-below full k [] h above = refl
 none-below full k (r ∷ records) h above = let a : k < r .name = above .0 in place-here full r records (omega arith)
 
--- records in order begin at the place of the tenant's lowest full name
+-- among records in order a tenant's begin at the place of its lowest full name
 start-is : (t : ℕ) (records : List BookRecord) → Sorted records → startOf t records ≡ placeOf (fullName t 0) records
 unfolding startOf placeOf
 start-is t [] sorted = refl
