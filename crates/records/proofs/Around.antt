@@ -1,15 +1,15 @@
 -- Bytes at a place put in the stead of others, put between, and taken out, where the bytes around them are known; of any size.
 -- Assumes nothing.
 use mathlib.Core.Path.{_≡_, refl, sym, ap, ap₂, _∙_}
-use mathlib.Core.List.{List, _++_, append-assoc}
+use mathlib.Core.List.{List, _++_}
 use Prim.Native.Nat.{ℕ, _+_, _-_}
 use native.Mathlib.Omega.{arith}
 use lib.ListN.{length, take, drop, length-append}
-use lib.Seq.{take-add, take-at, drop-at, drop-append-add, length-take-le}
+use lib.Seq.{take-at, drop-at, drop-append-add, length-take-le}
 use Rattle.text.specs.Texts.{placed}
 use Rattle.text.proofs.PlacedTexts.{placed-within}
 use Rattle.layout.specs.Layout.{zeros}
-use Rattle.records.specs.Moves.{gapAt, gapClosed}
+use Rattle.records.specs.Moves.{movedUp, firstRemoved, gapAt, gapClosed}
 
 module _ (front : List ℕ) (at : ℕ) (place : length front ≡ at) where
   past : (n : ℕ) (l : List ℕ) → drop (at + n) (front ++ l) ≡ drop n l
@@ -27,31 +27,19 @@ module _ (front : List ℕ) (at : ℕ) (place : length front ≡ at) where
       → placed at d (gapAt k at used (front ++ (moved ++ (room ++ back)))) ≡ front ++ (d ++ (moved ++ back))
   inserted-at moved room d back k used e f g =
       ap (placed at d)
-      (ap₂ (λ (a b : List ℕ). a ++ b) start (ap₂ (λ (a b : List ℕ). a ++ b) middle end) ∙ append-assoc front under (moved ++ back))
-      ∙ replaced-at under d (moved ++ back) (length-take-le k (moved ++ (room ++ back)) (simp length-append (omega arith)) ∙ sym g)
+      (ap₂ (λ (a b : List ℕ). a ++ movedUp k (used - at) b) (take-at front rest at place) (drop-at front rest at place)
+      ∙ ap₂ (λ (a b : List ℕ). front ++ (take k rest ++ (a ++ b))) (take-at moved (room ++ back) (used - at) amount) end)
+      ∙ replaced-at (take k rest) d (moved ++ back) (length-take-le k rest (simp length-append (omega arith)) ∙ sym g)
     where
-      s : List ℕ
-      s = front ++ (moved ++ (room ++ back))
+      rest : List ℕ
+      rest = moved ++ (room ++ back)
 
-      under : List ℕ
-      under = take k (moved ++ (room ++ back))
+      amount : length moved ≡ used - at
+      amount = omega arith
 
-      dropped : drop at s ≡ moved ++ (room ++ back)
-      dropped = drop-at front (moved ++ (room ++ back)) at place
-
-      start : take (at + k) s ≡ front ++ under
-      start = take-add at k s ∙ ap₂ (λ (a b : List ℕ). a ++ take k b) (take-at front (moved ++ (room ++ back)) at place) dropped
-
-      middle : take (used - at) (drop at s) ≡ moved
-      middle = ap (take (used - at)) dropped ∙ take-at moved (room ++ back) (used - at) (omega arith)
-
-      sum : used + k ≡ at + (length moved + k)
-      sum = omega arith
-
-      end : drop (used + k) s ≡ back
+      end : drop (used - at + k) rest ≡ back
       end =
-          ap (λ (n : ℕ). drop n s) sum
-          ∙ past (length moved + k) (moved ++ (room ++ back))
+          ap (λ (n : ℕ). drop (n + k) rest) (sym amount)
           ∙ drop-append-add moved (room ++ back) k
           ∙ drop-at room back k f
 
@@ -59,23 +47,17 @@ module _ (front : List ℕ) (at : ℕ) (place : length front ≡ at) where
   pub removed-at : (x moved back : List ℕ) (k used : ℕ) → length x ≡ k → at + k + length moved ≡ used
       → gapClosed k at used (front ++ (x ++ (moved ++ back))) ≡ front ++ (moved ++ (zeros k ++ back))
   removed-at x moved back k used e f =
-      ap₂ (λ (a b : List ℕ). a ++ b) (take-at front (x ++ (moved ++ back)) at place)
-      (ap₂ (λ (a b : List ℕ). a ++ (zeros k ++ b)) middle end)
+      ap₂ (λ (a b : List ℕ). a ++ firstRemoved k (used - k - at) b) (take-at front rest at place) (drop-at front rest at place)
+      ∙ ap₂ (λ (a b : List ℕ). front ++ (a ++ (zeros k ++ b))) middle end
     where
-      s : List ℕ
-      s = front ++ (x ++ (moved ++ back))
+      rest : List ℕ
+      rest = x ++ (moved ++ back)
 
-      middle : take (used - (at + k)) (drop (at + k) s) ≡ moved
-      middle =
-          ap (take (used - (at + k))) (past k (x ++ (moved ++ back)) ∙ drop-at x (moved ++ back) k e)
-          ∙ take-at moved back (used - (at + k)) (omega arith)
+      middle : take (used - k - at) (drop k rest) ≡ moved
+      middle = ap (take (used - k - at)) (drop-at x (moved ++ back) k e) ∙ take-at moved back (used - k - at) (omega arith)
 
-      sum : used ≡ at + (length x + length moved)
+      sum : used - k - at + k ≡ length x + length moved
       sum = omega arith
 
-      end : drop used s ≡ back
-      end =
-          ap (λ (n : ℕ). drop n s) sum
-          ∙ past (length x + length moved) (x ++ (moved ++ back))
-          ∙ drop-append-add x (moved ++ back) (length moved)
-          ∙ drop-at moved back (length moved) refl
+      end : drop (used - k - at + k) rest ≡ back
+      end = ap (λ (n : ℕ). drop n rest) sum ∙ drop-append-add x (moved ++ back) (length moved) ∙ drop-at moved back (length moved) refl

@@ -85,23 +85,23 @@ module _ (s : List ℕ) (undamaged : isBook s ≡ true) where
       ∙ ap (λ (l : List BookRecord). h .front ++ l) (withdrawn-same (fullName t name) (h .it) (h .back) (sym (h .name)))))
 
 pub replaces : Replaces
-replaces s t cell i undamaged found = replaced s undamaged t cell i (here s undamaged t (cell .name) i found)
+replaces s t cell i undamaged small found = replaced s undamaged t cell i (here s undamaged t (cell .name) i small found)
 
 pub inserts : Inserts
 unfolding recordInserted
-inserts s t cell i undamaged room found =
-    let within = absent-within s undamaged t (cell .name) i found in
+inserts s t cell i undamaged small room found =
+    let within = absent-within s undamaged t (cell .name) i small found in
     rw (
       le-leb i (recordCount s) within,
       le-leb (usedLength (suc (recordCount s))) (length s) (omega (arith, book-frame s undamaged .size)),
     )
-    (inserted s undamaged t cell i (gone s undamaged t (cell .name) i found) room)
+    (inserted s undamaged t cell i (gone s undamaged t (cell .name) i small found) room)
 
 pub removes : Removes
 unfolding recordRemoved
-removes s t name i undamaged found =
+removes s t name i undamaged small found =
     rw (
-      lt-ltb i (recordCount s) (found-within s undamaged t name i found),
+      lt-ltb i (recordCount s) (found-within s undamaged t name i small found),
       le-leb (usedLength (recordCount s)) (length s) (omega (arith, book-frame s undamaged .size, book-frame s undamaged .few)),
     )
-    (removed s undamaged t name i (here s undamaged t name i found))
+    (removed s undamaged t name i (here s undamaged t name i small found))

@@ -1,9 +1,9 @@
--- The place of a full name among records in order: how one record's name bounds it, whether it is held there, and how many cells lie between two.
+-- The place of a full name among records in order: how it and one record's name bound each other, and whether the name is held there.
 -- Assumes nothing.
 use mathlib.Core.Path.{_≡_, refl, sym}
 use mathlib.Core.Bool.{_&&_}
 use mathlib.Core.List.{List, [], _∷_}
-use Prim.Native.Nat.{ℕ, zero, suc, _+_, _≤_, _<_, suc-le-suc}
+use Prim.Native.Nat.{ℕ, zero, suc, _≤_, _<_, suc-le-suc}
 use native.Mathlib.Nat.{le-of-suc-le-suc, not-suc-le-zero}
 use native.Mathlib.Omega.{arith}
 use borrow.Author.Tests.{ltb-true, ltb-false, lt-ltb, eq-eqb, ne-eqb}
@@ -12,9 +12,8 @@ use lib.ListN.{length, getD}
 use Rattle.bytes.proofs.Every.{either, same-tests}
 use Rattle.tenants.specs.Cells.{cellOf}
 use Rattle.tenants.specs.Rules.{isSome}
-use Rattle.tenants.specs.Together.{BookRecord, fullName, tenantOf, cellsOf}
+use Rattle.tenants.specs.Together.{BookRecord}
 use Rattle.tenants.proofs.Ordered.{Above, Sorted, Stands, before, same, behind, stands, above-lower, found-here, found-later, absent-above}
-use Rattle.tenants.proofs.OwnCells.{cells-mine, cells-not}
 use Rattle.records.proofs.Found.{placeOf, place-here, place-later}
 
 above-at : (k : ℕ) (records : List BookRecord) (d : BookRecord) (i : ℕ) → Above k records → i < length records → k < getD records i d .name
@@ -40,6 +39,20 @@ module _ (full : ℕ) (d : BookRecord) where
       either (ltb (r .name) full)
       (λ low. rw (place-later full r records (ltb-true _ _ low)) (suc-le-suc (place-up-to records i (le-of-suc-le-suc h) high)))
       (λ up. rw (place-here full r records (ltb-false _ _ up)) (omega arith))
+
+  -- and so a record before the place comes before the name
+  pub before-place : (records : List BookRecord) (i : ℕ) → i < length records → i < placeOf full records → getD records i d .name < full
+  before-place records i inside earlier =
+      either (ltb (getD records i d .name) full) (λ low. ltb-true _ _ low)
+      (λ high. let up-to = place-up-to records i inside (ltb-false _ _ high) in omega arith)
+
+  -- and one from there on does not
+  pub from-place : (records : List BookRecord) (i : ℕ) → Sorted records → i < length records → placeOf full records ≤ i
+      → full ≤ getD records i d .name
+  from-place records i sorted inside from =
+      either (ltb (getD records i d .name) full)
+      (λ low. let after = place-after records i sorted inside (ltb-true _ _ low) in omega arith)
+      (λ high. ltb-false _ _ high)
 
   -- the name is held where the record at its place has it
   pub held-there : (records : List BookRecord) → Sorted records
@@ -83,32 +96,11 @@ place-within full (r ∷ records) =
     (λ low. rw low (suc-le-suc (place-within full records)))
     (λ up. rw up (omega arith))
 
--- the tenant's cells lie from the place of its first name to that of the next tenant's
-module _ (t : ℕ) where
-  abbrev first : ℕ
-  first = fullName t 0
-
-  abbrev next : ℕ
-  next = fullName (t + 1) 0
-
-  none-below : (full k : ℕ) (records : List BookRecord) → full ≤ k → Above k records → placeOf full records ≡ 0
-  unfolding placeOf
-  none-below full k [] h above = refl
-  none-below full k (r ∷ records) h above = let a : k < r .name = above .0 in place-here full r records (omega arith)
-
-  pub cells-between : (records : List BookRecord) → Sorted records → length (cellsOf t records) + placeOf first records ≡ placeOf next records
-  unfolding placeOf cellsOf
-  cells-between [] sorted = refl
-  cells-between (r ∷ records) sorted = go (stands (tenantOf r) t) (cells-between records (sorted .1))
-    where
-      go : Stands (tenantOf r) t → length (cellsOf t records) + placeOf first records ≡ placeOf next records
-          → length (cellsOf t (r ∷ records)) + placeOf first (r ∷ records) ≡ placeOf next (r ∷ records)
-      go (before m) ih =
-          rw (cells-not t r records (λ e. omega arith), place-later first r records (omega arith), place-later next r records (omega arith))
-          (omega arith)
-      go (same m) ih =
-          rw (cells-mine t r records m, place-here first r records (omega arith), place-later next r records (omega arith))
-          (omega (arith, none-below first (r .name) records (omega arith) (sorted .0)))
-      go (behind m) ih =
-          rw (cells-not t r records (λ e. omega arith), place-here first r records (omega arith), place-here next r records (omega arith))
-          (omega (arith, none-below next (r .name) records (omega arith) (sorted .0)))
+-- a higher name has no lower place
+pub place-rises : (low high : ℕ) (records : List BookRecord) → low ≤ high → placeOf low records ≤ placeOf high records
+unfolding placeOf
+place-rises low high [] h = omega arith
+place-rises low high (r ∷ records) h =
+    either (ltb (r .name) low)
+    (λ below. rw (below, place-later high r records (omega (arith, ltb-true (r .name) low below))) (suc-le-suc (place-rises low high records h)))
+    (λ up. rw up (omega arith))

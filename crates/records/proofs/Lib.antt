@@ -1,6 +1,7 @@
 pub mod Found
 pub mod Halving
 pub mod RecordParts
+pub mod OwnPart
 pub mod Searching
 pub mod OwnFound
 pub mod Shifts

@@ -15,15 +15,15 @@ use Rattle.layout.specs.Layout.{recordAt, recordCount, bookOf, isBook, ownIn}
 use Rattle.layout.proofs.Indexed.{book-count, book-record}
 use Rattle.layout.proofs.Promises.{good}
 use Rattle.records.specs.declared.finding.Found.the-variants.{At, Absent}
-use Rattle.records.specs.Finding.{searched, FindsHeld, FindsNone}
+use Rattle.records.specs.Finding.{searchedFor, FindsHeld, FindsNone}
 use Rattle.records.proofs.Found.{Here, Gone, found-at, found-absent}
 use Rattle.records.proofs.Searching.{search-says}
 
-module _ (s : List ℕ) (undamaged : isBook s ≡ true) (t name i : ℕ) where
-  module _ (found : searched s (fullName t name) ≡ At i) where
+module _ (s : List ℕ) (undamaged : isBook s ≡ true) (t name i : ℕ) (small : name < names) where
+  module _ (found : searchedFor s t name ≡ At i) where
     pub here : Here (fullName t name) (bookOf s .records) i
     here = found-at (fullName t name) (bookOf s .records) i (good s undamaged .sorted)
-        (sym (search-says s undamaged (fullName t name)) ∙ found)
+        (sym (search-says s undamaged t name small) ∙ found)
 
     -- the place lies among the records
     pub found-within : i < recordCount s
@@ -35,29 +35,29 @@ module _ (s : List ℕ) (undamaged : isBook s ≡ true) (t name i : ℕ) where
         ∙ ap (λ (l : List BookRecord). getD l i (here .it)) (sym (here .whole))
         ∙ book-record s i (here .it) found-within
 
-    cell-there : name < names → cellOf name (ownIn s t .cells) ≡ some (cellIn (recordAt s i))
+    cell-there : cellOf name (ownIn s t .cells) ≡ some (cellIn (recordAt s i))
     unfolding ownOf
-    cell-there small =
+    cell-there =
         let name-is : name ≡ nameOf (here .it) = omega (arith, here .name) in
         cell-found t name small (bookOf s .records) (here .it) (here .held)
         ∙ ap (λ (n : ℕ). some (named n (here .it))) name-is
         ∙ ap (λ (r : BookRecord). some (cellIn r)) it-is
 
-  module _ (found : searched s (fullName t name) ≡ Absent i) where
+  module _ (found : searchedFor s t name ≡ Absent i) where
     pub gone : Gone (fullName t name) (bookOf s .records) i
     gone = found-absent (fullName t name) (bookOf s .records) i (good s undamaged .sorted)
-        (sym (search-says s undamaged (fullName t name)) ∙ found)
+        (sym (search-says s undamaged t name small) ∙ found)
 
     -- the place lies among the records or after the last
     pub absent-within : i ≤ recordCount s
     absent-within = omega (arith, gone .place, book-count s, simp length-append at (ap length (gone .whole)))
 
-    no-cell : name < names → cellOf name (ownIn s t .cells) ≡ none
+    no-cell : cellOf name (ownIn s t .cells) ≡ none
     unfolding ownOf
-    no-cell small = cell-absent t name small (bookOf s .records) (gone .absent)
+    no-cell = cell-absent t name small (bookOf s .records) (gone .absent)
 
 pub finds-held : FindsHeld
-finds-held s t name i undamaged small found = cell-there s undamaged t name i found small
+finds-held s t name i undamaged small found = cell-there s undamaged t name i small found
 
 pub finds-none : FindsNone
-finds-none s t name i undamaged small found = no-cell s undamaged t name i found small
+finds-none s t name i undamaged small found = no-cell s undamaged t name i small found

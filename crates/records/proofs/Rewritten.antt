@@ -25,7 +25,7 @@ use Rattle.layout.proofs.Splits.{rest-room, bytesBefore, bytesFrom, before-size
 use Rattle.records.specs.Moves.{usedPut, recordPut, insertedAmong, removedAmong}
 use Rattle.records.proofs.Around.{replaced-at, inserted-at, removed-at}
 
-from-first : (n : ℕ) (r : BookRecord) (back : List BookRecord) → bytesFrom n (r ∷ back) ≡ recordBytes r ++ bytesFrom n back
+pub from-first : (n : ℕ) (r : BookRecord) (back : List BookRecord) → bytesFrom n (r ∷ back) ≡ recordBytes r ++ bytesFrom n back
 unfolding allBytes
 from-first n r back = append-assoc (recordBytes r) (allBytes recordBytes back) (rest n)
 

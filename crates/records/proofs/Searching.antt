@@ -1,26 +1,32 @@
 -- The search on a book's bytes: one halving, where it ends, and what an undamaged book's records then have at that place.
 -- Assumes nothing.
-use mathlib.Core.Path.{_≡_, refl, sym, ap, ap₂, _∙_}
+use mathlib.Core.Path.{_≡_, refl, sym, ap, _∙_}
 use mathlib.Core.Bool.{Bool, true, false, cond, _&&_}
 use mathlib.Core.List.{List}
 use Prim.Native.Nat.{ℕ, zero, suc, _+_, _-_, _/_, _≤_, _<_}
 use native.Mathlib.Omega.{arith}
-use borrow.Author.Tests.{ltb-true, ltb-false, lt-ltb, le-ltb}
+use borrow.Author.Tests.{ltb-true, ltb-false, eqb-true, eqb-false, lt-ltb, le-ltb, eq-eqb, ne-eqb}
 use lib.Dec.{ltb, eqb}
 use lib.ListN.{length, getD}
 use Rattle.bytes.specs.Numbers.{Below}
 use Rattle.bytes.proofs.Every.{either}
 use Rattle.bytes.proofs.Places.{number-at-below}
-use Rattle.tenants.specs.Together.{BookRecord, fullName, ownOf}
+use Rattle.tenants.specs.Together.{names, fullName}
 use Rattle.layout.specs.Layout.{recordAt, recordCount, bookOf, isBook}
-use Rattle.layout.proofs.Frame.{book-frame}
-use Rattle.layout.proofs.Indexed.{book-count, book-record}
+use Rattle.layout.specs.Starts.{firstIn, pastIn}
+use Rattle.layout.proofs.Indexed.{book-count}
 use Rattle.layout.proofs.Promises.{good}
 use Rattle.records.specs.declared.finding.Found.the-variants.{At, Absent}
-use Rattle.records.specs.Finding.{nameAt, halved, placeIn, foundAt, searched, heldIn, CountsHeld}
+use Rattle.records.specs.Finding.{nameAt, halved, placeIn, foundAt, searched, searchedFor}
 use Rattle.records.proofs.Found.{placeOf, foundIn}
-use Rattle.records.proofs.Halving.{place-after, place-up-to, place-within, held-there, cells-between}
-use Rattle.records.proofs.RecordParts.{name-parts}
+use Rattle.records.proofs.Halving.{place-after, place-up-to, held-there}
+use Rattle.records.proofs.OwnPart.{past-within, own-name, past-above, place-from, place-upto}
+
+-- full names of one tenant are equal where the names are
+own-named : (t n m : ℕ) → eqb n m ≡ eqb (fullName t n) (fullName t m)
+own-named t n m =
+    either (eqb n m) (λ e. e ∙ sym (eq-eqb (fullName t n) (fullName t m) (omega (arith, eqb-true n m e))))
+    (λ e. e ∙ sym (ne-eqb (fullName t n) (fullName t m) (λ z. eqb-false n m e (omega arith))))
 
 -- a used length of four bytes tells no more records than this
 pub count-most : (s : List ℕ) → Below 256 s → recordCount s ≤ 178956966
@@ -64,131 +70,135 @@ module _ (at : ℕ → ℕ) (name : ℕ) where
       let done : high ≤ low = ltb-false low high no in
       halved-done (suc times) low high done ∙ sym (halved-done (suc others) low high done))
 
--- what is left is from low to high, and to halve it ends at the place
-pub record Left (s : List ℕ) (name low high : ℕ) : Type 0 where
-  pub few : high ≤ 178956966
-  pub ends : (times : ℕ) → high - low ≤ times → halved (nameAt s) name times low high ≡ placeIn s name
+-- what is left is from low to high, in four bytes each, and to halve it ends at the place
+pub record Left (s : List ℕ) (first past name low high : ℕ) : Type 0 where
+  pub low-fits : low < 4294967296
+  pub high-fits : high < 4294967296
+  pub ends : (times : ℕ) → high - low ≤ times → halved (nameAt s) name times low high ≡ placeIn s first past name
 
-module _ (s : List ℕ) (name : ℕ) where
-  pub all-left : Below 256 s → Left s name 0 (recordCount s)
+module _ (s : List ℕ) (first past name : ℕ) where
+  pub all-left : first < 4294967296 → past < 4294967296 → Left s first past name first past
   unfolding placeIn
-  all-left below = record {
-    few = count-most s below;
-    ends = λ times h. more-times (nameAt s) name times (recordCount s) 0 (recordCount s) h (omega arith);
+  all-left a b = record {
+    low-fits = a;
+    high-fits = b;
+    ends = λ times h. more-times (nameAt s) name times (past - first) first past h (omega arith);
   }
 
-  module _ (low high : ℕ) (so-far : Left s name low high) where
-    pub left-up : low < high → ltb (nameAt s ((low + high) / 2)) name ≡ true → Left s name ((low + high) / 2 + 1) high
+  module _ (low high : ℕ) (so-far : Left s first past name low high) where
+    pub left-up : low < high → nameAt s ((low + high) / 2) < name → Left s first past name ((low + high) / 2 + 1) high
     left-up left lower = record {
-      few = so-far .few;
+      low-fits = omega (arith, so-far .high-fits);
+      high-fits = so-far .high-fits;
       ends = λ times h.
           more-times (nameAt s) name times (high - low) ((low + high) / 2 + 1) high h (omega arith)
-          ∙ sym (halved-up (nameAt s) name (high - low) low high left lower)
+          ∙ sym (halved-up (nameAt s) name (high - low) low high left (lt-ltb _ _ lower))
           ∙ so-far .ends (suc (high - low)) (omega arith);
     }
 
-    pub left-down : low < high → ltb (nameAt s ((low + high) / 2)) name ≡ false → Left s name low ((low + high) / 2)
+    pub left-down : low < high → name ≤ nameAt s ((low + high) / 2) → Left s first past name low ((low + high) / 2)
     left-down left upper = record {
-      few = omega (arith, so-far .few);
+      low-fits = so-far .low-fits;
+      high-fits = omega (arith, so-far .high-fits);
       ends = λ times h.
           more-times (nameAt s) name times (high - low) low ((low + high) / 2) h (omega arith)
-          ∙ sym (halved-down (nameAt s) name (high - low) low high left upper)
+          ∙ sym (halved-down (nameAt s) name (high - low) low high left (le-ltb _ _ upper))
           ∙ so-far .ends (suc (high - low)) (omega arith);
     }
 
-    pub none-left : high ≤ low → low ≡ placeIn s name
+    pub none-left : high ≤ low → low ≡ placeIn s first past name
     none-left done = sym (halved-done (nameAt s) name 0 low high done) ∙ so-far .ends 0 (omega arith)
 
   -- the search's answers, by what stands at the place
-  module _ (i : ℕ) (ended : i ≡ placeIn s name) where
-    is-searched : foundAt s name i ≡ searched s name
+  module _ (i : ℕ) (ended : i ≡ placeIn s first past name) where
+    is-searched : foundAt s past name i ≡ searched s first past name
     unfolding searched
-    is-searched = ap (foundAt s name) ended
+    is-searched = ap (foundAt s past name) ended
 
-    pub found-this : i < recordCount s → eqb (nameAt s i) name ≡ true → At i ≡ searched s name
+    pub found-this : i < past → nameAt s i ≡ name → At i ≡ searched s first past name
     found-this inside this = found ∙ is-searched
       where
-        found : At i ≡ foundAt s name i
-        found = rw (lt-ltb i (recordCount s) inside, this)
+        found : At i ≡ foundAt s past name i
+        found = rw (lt-ltb i past inside, eq-eqb (nameAt s i) name this)
 
-    pub found-other : i < recordCount s → eqb (nameAt s i) name ≡ false → Absent i ≡ searched s name
+    pub found-other : i < past → (nameAt s i ≡ name → ⊥) → Absent i ≡ searched s first past name
     found-other inside other = found ∙ is-searched
       where
-        found : Absent i ≡ foundAt s name i
-        found = rw (lt-ltb i (recordCount s) inside, other)
+        found : Absent i ≡ foundAt s past name i
+        found = rw (lt-ltb i past inside, ne-eqb (nameAt s i) name other)
 
-    pub found-end : recordCount s ≤ i → Absent i ≡ searched s name
+    pub found-end : past ≤ i → Absent i ≡ searched s first past name
     found-end end = found ∙ is-searched
       where
-        found : Absent i ≡ foundAt s name i
-        found = rw (le-ltb i (recordCount s) end)
+        found : Absent i ≡ foundAt s past name i
+        found = rw (le-ltb i past end)
 
-module _ (s : List ℕ) (undamaged : isBook s ≡ true) where
-  module _ (i : ℕ) (inside : i < recordCount s) where
-    name-is : nameAt s i ≡ getD (bookOf s .records) i (recordAt s i) .name
-    unfolding recordAt
-    name-is =
-        sym (name-parts s _ (omega (arith, book-frame s undamaged .size, book-frame s undamaged .few)))
-        ∙ ap (λ (r : BookRecord). r .name) (sym (book-record s i (recordAt s i) inside))
+module _ (s : List ℕ) (undamaged : isBook s ≡ true) (t name : ℕ) (small : name < names) where
+  -- the place of the tenant's name among the records
+  abbrev place : ℕ
+  place = placeOf (fullName t name) (bookOf s .records)
 
-  module _ (full : ℕ) where
-    -- the place among the records
-    abbrev place : ℕ
-    place = placeOf full (bookOf s .records)
+  module _ (i : ℕ) (from : firstIn s t ≤ i) (upto : i < pastIn s t) where
+    inside : i < length (bookOf s .records)
+    inside = omega (arith, past-within s undamaged t, book-count s)
 
-    turn-up : (i : ℕ) → i < recordCount s → ltb (nameAt s i) full ≡ true → i < place
-    turn-up i inside low =
-        place-after full (recordAt s i) (bookOf s .records) i (good s undamaged .sorted) (omega (arith, book-count s))
-        (omega (arith, name-is i inside, ltb-true (nameAt s i) full low))
+    turn-up : ltb (nameAt s i) name ≡ true → i < place
+    turn-up low =
+        place-after (fullName t name) (recordAt s i) (bookOf s .records) i (good s undamaged .sorted) inside
+        (omega (arith, own-name s undamaged t i from upto, ltb-true (nameAt s i) name low))
 
-    turn-down : (i : ℕ) → i < recordCount s → ltb (nameAt s i) full ≡ false → place ≤ i
-    turn-down i inside high =
-        place-up-to full (recordAt s i) (bookOf s .records) i (omega (arith, book-count s))
-        (omega (arith, name-is i inside, ltb-false (nameAt s i) full high))
+    turn-down : ltb (nameAt s i) name ≡ false → place ≤ i
+    turn-down high =
+        place-up-to (fullName t name) (recordAt s i) (bookOf s .records) i inside
+        (omega (arith, own-name s undamaged t i from upto, ltb-false (nameAt s i) name high))
 
-    halved-there : (times low high : ℕ) → high - low ≤ times → high ≤ recordCount s → low ≤ place → place ≤ high
-        → halved (nameAt s) full times low high ≡ place
-    halved-there zero low high few most up down = halved-done (nameAt s) full 0 low high (omega arith) ∙ omega arith
-    halved-there (suc times) low high few most up down =
-        either (ltb low high)
-        (λ yes.
-        let left : low < high = ltb-true low high yes in
-        let inside : (low + high) / 2 < recordCount s = omega arith in
-        either (ltb (nameAt s ((low + high) / 2)) full)
-        (λ lower.
-        let after = turn-up ((low + high) / 2) inside lower in
-        halved-up (nameAt s) full times low high left lower
-        ∙ halved-there times ((low + high) / 2 + 1) high (omega arith) most (omega arith) down)
-        (λ upper.
-        let up-to = turn-down ((low + high) / 2) inside upper in
-        halved-down (nameAt s) full times low high left upper
-        ∙ halved-there times low ((low + high) / 2) (omega arith) (omega arith) up up-to))
-        (λ no. let done : high ≤ low = ltb-false low high no in halved-done (nameAt s) full (suc times) low high done ∙ omega arith)
+  halved-there : (times low high : ℕ) → high - low ≤ times → firstIn s t ≤ low → high ≤ pastIn s t → low ≤ place → place ≤ high
+      → halved (nameAt s) name times low high ≡ place
+  halved-there zero low high few least most up down = halved-done (nameAt s) name 0 low high (omega arith) ∙ omega arith
+  halved-there (suc times) low high few least most up down =
+      either (ltb low high)
+      (λ yes.
+      let left : low < high = ltb-true low high yes in
+      either (ltb (nameAt s ((low + high) / 2)) name)
+      (λ lower.
+      let after = turn-up ((low + high) / 2) (omega arith) (omega arith) lower in
+      halved-up (nameAt s) name times low high left lower
+      ∙ halved-there times ((low + high) / 2 + 1) high (omega arith) (omega arith) most (omega arith) down)
+      (λ upper.
+      let up-to = turn-down ((low + high) / 2) (omega arith) (omega arith) upper in
+      halved-down (nameAt s) name times low high left upper
+      ∙ halved-there times low ((low + high) / 2) (omega arith) least (omega arith) up up-to))
+      (λ no. let done : high ≤ low = ltb-false low high no in halved-done (nameAt s) name (suc times) low high done ∙ omega arith)
 
-    place-is : placeIn s full ≡ place
-    unfolding placeIn
-    place-is =
-        halved-there (recordCount s) 0 (recordCount s) (omega arith) (omega arith) (omega arith)
-        (omega (arith, place-within full (bookOf s .records), book-count s))
+  place-is : placeIn s (firstIn s t) (pastIn s t) name ≡ place
+  unfolding placeIn
+  place-is =
+      halved-there (pastIn s t - firstIn s t) (firstIn s t) (pastIn s t) (omega arith) (omega arith) (omega arith)
+      (place-from s undamaged t name) (place-upto s undamaged t name small)
 
-    -- the tests at the place are whether the name is held
-    tests-say : (i : ℕ) → (ltb i (recordCount s) && eqb (nameAt s i) full)
-        ≡ (ltb i (length (bookOf s .records)) && eqb (getD (bookOf s .records) i (recordAt s i) .name) full)
-    tests-say i =
-        rw (book-count s)
-        (either (ltb i (recordCount s))
-        (λ yes. rw yes (ap (λ (n : ℕ). eqb n full) (name-is i (ltb-true i (recordCount s) yes))))
-        (λ no. rw no refl))
+  -- the tests at the place are whether the name is held
+  tests-say : (ltb place (pastIn s t) && eqb (nameAt s place) name)
+      ≡ (ltb place (length (bookOf s .records)) && eqb (getD (bookOf s .records) place (recordAt s place) .name) (fullName t name))
+  tests-say =
+      either (ltb place (pastIn s t))
+      (λ yes.
+      let before : place < pastIn s t = ltb-true place (pastIn s t) yes in
+      let from = place-from s undamaged t name in
+      rw (yes, lt-ltb place (length (bookOf s .records)) (inside place from before), own-name s undamaged t place from before)
+      (own-named t (nameAt s place) name))
+      (λ no.
+      let end : pastIn s t ≤ place = ltb-false place (pastIn s t) no in
+      rw no
+      (either (ltb place (length (bookOf s .records)))
+      (λ yes.
+      let within : place < recordCount s = omega (arith, ltb-true place (length (bookOf s .records)) yes, book-count s) in
+      let above = past-above s undamaged t place within end in
+      rw (yes, ne-eqb (getD (bookOf s .records) place (recordAt s place) .name) (fullName t name) (λ e. omega arith)) refl)
+      (λ beyond. rw beyond refl)))
 
-    pub search-says : searched s full ≡ foundIn full (bookOf s .records)
-    unfolding searched foundIn
-    search-says =
-        rw place-is
-        (ap (λ (held : Bool). cond held (At place) (Absent place))
-        (tests-say place ∙ sym (held-there full (recordAt s place) (bookOf s .records) (good s undamaged .sorted))))
-
-pub counts-held : CountsHeld
-unfolding heldIn ownOf
-counts-held s t undamaged =
-    ap₂ (λ (a b : ℕ). a - b) (place-is s undamaged (fullName (t + 1) 0)) (place-is s undamaged (fullName t 0))
-    ∙ omega (arith, cells-between t (bookOf s .records) (good s undamaged .sorted))
+  pub search-says : searchedFor s t name ≡ foundIn (fullName t name) (bookOf s .records)
+  unfolding searched foundIn
+  search-says =
+      rw place-is
+      (ap (λ (held : Bool). cond held (At place) (Absent place))
+      (tests-say ∙ sym (held-there (fullName t name) (recordAt s place) (bookOf s .records) (good s undamaged .sorted))))

@@ -10,22 +10,30 @@ use Rattle.bytes.specs.Numbers.{bytesOf}
 use Rattle.text.specs.Texts.{placed}
 use Rattle.tenants.specs.declared.Held.{Held}
 use Rattle.tenants.specs.Rules.{enters, withdraws}
-use Rattle.tenants.specs.Together.{BookRecord, fullName, inBook, changed}
+use Rattle.tenants.specs.Together.{BookRecord, names, inBook, changed}
 use Rattle.layout.specs.Layout.{recordSize, zeros, recordBytes, usedLength, bookBytes, recordPlace, recordCount, bookOf, isBook}
 use Rattle.records.specs.declared.finding.Found.the-variants.{At, Absent}
-use Rattle.records.specs.Finding.{searched}
+use Rattle.records.specs.Finding.{searchedFor}
 
--- s with the bytes from a place to the used length moved up by k: a gap of k bytes opens at the place
+-- p with its first n bytes moved up by k: a gap of k bytes opens before them
+abbrev pub movedUp : ℕ → ℕ → List ℕ → List ℕ
+movedUp k n p = take k p ++ (take n p ++ drop (n + k) p)
+
+-- p with the n bytes after its first k moved down over those
+abbrev pub movedDown : ℕ → ℕ → List ℕ → List ℕ
+movedDown k n p = take n (drop k p) ++ drop n p
+
+-- p without its first k bytes: the n after them are moved down, and k zeros follow
+abbrev pub firstRemoved : ℕ → ℕ → List ℕ → List ℕ
+firstRemoved k n p = take n (drop k p) ++ (zeros k ++ drop (n + k) p)
+
+-- s with the bytes from a place to the used length moved up by k
 abbrev pub gapAt : ℕ → ℕ → ℕ → List ℕ → List ℕ
-gapAt k at used s = take (at + k) s ++ (take (used - at) (drop at s) ++ drop (used + k) s)
-
--- s with the bytes that stand k after a place moved down to it, up to another place
-abbrev pub movedDown : ℕ → ℕ → ℕ → List ℕ → List ℕ
-movedDown k at end s = take at s ++ (take (end - at) (drop (at + k) s) ++ drop end s)
+gapAt k at used s = take at s ++ movedUp k (used - at) (drop at s)
 
 -- s without the k bytes at a place: those after them, to the used length, are moved down, and k zeros follow
 abbrev pub gapClosed : ℕ → ℕ → ℕ → List ℕ → List ℕ
-gapClosed k at used s = take at s ++ (take (used - (at + k)) (drop (at + k) s) ++ (zeros k ++ drop used s))
+gapClosed k at used s = take at s ++ firstRemoved k (used - k - at) (drop at s)
 
 -- s with this used length
 abbrev pub usedPut : ℕ → List ℕ → List ℕ
@@ -55,17 +63,18 @@ recordRemoved i s = cond (ltb i (recordCount s) && leb (usedLength (recordCount 
 -- of an undamaged book: to write a cell's record where the search found its name is to enter it
 abbrev pub Replaces : Type 0
 Replaces =
-    (s : List ℕ) (t : ℕ) (cell : Held) (i : ℕ) → isBook s ≡ true → searched s (fullName t (cell .name)) ≡ At i
+    (s : List ℕ) (t : ℕ) (cell : Held) (i : ℕ) → isBook s ≡ true → cell .name < names → searchedFor s t (cell .name) ≡ At i
     → recordPut i (inBook t cell) s ≡ bookBytes (changed t (enters cell) (bookOf s))
 
 -- and so it is to put it in where the search found none, with room for one more
 abbrev pub Inserts : Type 0
 Inserts =
-    (s : List ℕ) (t : ℕ) (cell : Held) (i : ℕ) → isBook s ≡ true → recordCount s < 512 → searched s (fullName t (cell .name)) ≡ Absent i
+    (s : List ℕ) (t : ℕ) (cell : Held) (i : ℕ) → isBook s ≡ true → cell .name < names → recordCount s < 512
+    → searchedFor s t (cell .name) ≡ Absent i
     → recordInserted i (inBook t cell) s ≡ bookBytes (changed t (enters cell) (bookOf s))
 
 -- to take the record out that the search found is to withdraw its cell
 abbrev pub Removes : Type 0
 Removes =
-    (s : List ℕ) (t name i : ℕ) → isBook s ≡ true → searched s (fullName t name) ≡ At i
+    (s : List ℕ) (t name i : ℕ) → isBook s ≡ true → name < names → searchedFor s t name ≡ At i
     → recordRemoved i s ≡ bookBytes (changed t (withdraws name) (bookOf s))

@@ -7,43 +7,43 @@ ghost use Rattle.bytes.specs.Numbers.{bytesOf};
 ghost use Rattle.text.specs.Texts.{placed};
 ghost use Rattle.tenants.specs.Together.{fullName, inBook};
 ghost use Rattle.layout.specs.Layout.{recordSize, zeros, recordBytes};
-ghost use Rattle.records.specs.Moves.{gapAt, movedDown, gapClosed, usedPut, recordPut, recordInserted, recordRemoved};
+ghost use Rattle.records.specs.Moves.{movedUp, movedDown, firstRemoved, usedPut, recordPut, recordInserted, recordRemoved};
 use layout::RECORD_SIZE;
 use layout::RECORDS_PLACE;
 use tenants::Held;
 
-// Moves the bytes from a place to the used length up by a record's size: a gap opens there.
-fn open_gap(book: &mut [u8], at: usize, used: usize)
-    requires { ⌜ (at ≤ used) × (used + recordSize ≤ length (now book)) ⌝ }
-    ensures { λ _. ⌜ now (book .exit) ≡ gapAt recordSize at used (now (book .entry)) ⌝ }
+// Moves the first n bytes up by a record's size: a gap opens before them.
+fn open_gap(part: &mut [u8], n: usize)
+    requires { ⌜ n + recordSize ≤ length (now part) ⌝ }
+    ensures { λ _. ⌜ now (part .exit) ≡ movedUp recordSize n (now (part .entry)) ⌝ }
 {
-    let mut j = used;
-    while at < j {
+    let mut j = n;
+    while 0 < j {
+        part[j + RECORD_SIZE - 1] = part[j - 1];
         j -= 1;
-        book[j + RECORD_SIZE] = book[j];
     }
 }
 
-// Moves the bytes after a record down over it, up to a place.
-fn move_down(book: &mut [u8], at: usize, end: usize)
-    requires { ⌜ (at ≤ end) × (end + recordSize ≤ length (now book)) ⌝ }
-    ensures { λ _. ⌜ now (book .exit) ≡ movedDown recordSize at end (now (book .entry)) ⌝ }
+// Moves the n bytes after the first record down over it.
+fn move_down(part: &mut [u8], n: usize)
+    requires { ⌜ n + recordSize ≤ length (now part) ⌝ }
+    ensures { λ _. ⌜ now (part .exit) ≡ movedDown recordSize n (now (part .entry)) ⌝ }
 {
-    let mut j = at;
-    while j < end {
-        book[j] = book[j + RECORD_SIZE];
+    let mut j: usize = 0;
+    while j < n {
+        part[j] = part[j + RECORD_SIZE];
         j += 1;
     }
 }
 
-// Takes a record out: those after it move down, and the room that falls free is zero.
-fn close_gap(book: &mut [u8], at: usize, used: usize)
-    requires { ⌜ (at + recordSize ≤ used) × (used ≤ length (now book)) ⌝ }
-    ensures { λ _. ⌜ now (book .exit) ≡ gapClosed recordSize at used (now (book .entry)) ⌝ }
+// Takes the first record out: the n bytes after it move down, and the room that falls free is zero.
+fn close_gap(part: &mut [u8], n: usize)
+    requires { ⌜ n + recordSize ≤ length (now part) ⌝ }
+    ensures { λ _. ⌜ now (part .exit) ≡ firstRemoved recordSize n (now (part .entry)) ⌝ }
 {
     let none = [0u8; RECORD_SIZE];
-    move_down(book, at, used - RECORD_SIZE);
-    text::writing::put_text(book, used - RECORD_SIZE, &none);
+    move_down(part, n);
+    text::writing::put_text(part, n, &none);
 }
 
 // Writes the full name: the tenant in one byte, and the name.
@@ -106,7 +106,8 @@ pub fn insert_record(book: &mut [u8], i: u32, tenant: u32, cell: Held)
     let n = layout::count(book);
     let used = RECORDS_PLACE + RECORD_SIZE * n;
     if i as usize <= n && used + RECORD_SIZE <= book.len() {
-        open_gap(book, RECORDS_PLACE + RECORD_SIZE * i as usize, used);
+        let at = RECORDS_PLACE + RECORD_SIZE * i as usize;
+        open_gap(&mut book[at..], used - at);
         put_record(book, i, tenant, cell);
         put_used(book, used + RECORD_SIZE);
     }
@@ -119,7 +120,8 @@ pub fn remove_record(book: &mut [u8], i: u32)
     let n = layout::count(book);
     let used = RECORDS_PLACE + RECORD_SIZE * n;
     if (i as usize) < n && used <= book.len() {
-        close_gap(book, RECORDS_PLACE + RECORD_SIZE * i as usize, used);
+        let at = RECORDS_PLACE + RECORD_SIZE * i as usize;
+        close_gap(&mut book[at..], used - RECORD_SIZE - at);
         put_used(book, used - RECORD_SIZE);
     }
 }

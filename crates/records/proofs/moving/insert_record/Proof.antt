@@ -1,11 +1,13 @@
 -- `records::moving::insert_record` meets its contract: a gap, the record in it, and the used length; or nothing.
 -- Assumes nothing.
 use mathlib.Core.Logic.{⊎-elim}
-use Prim.Native.Nat.{_≤_}
+use Prim.Native.Nat.{_+_, _≤_}
 use native.Mathlib.Omega.{arith}
 use borrow.Author.Needs.{needs}
 use borrow.Author.Tests.{leb-true, leb-false}
+use lib.ListN.{length, length-take, length-drop}
 use Rattle.tenants.specs.Together.{inBook}
+use Rattle.layout.specs.Layout.{recordSize, usedLength, recordPlace}
 use Rattle.records.proofs.Searching.{count-most}
 use Rattle.records.proofs.Guarded.{put-in, put-too-far, no-room}
 use Rattle.records.proofs.moving.insert_record.Statement.{statement}
@@ -29,14 +31,37 @@ add-used c = omega (arith, few c)
 add-if2 : tie.Need-add-if2
 add-if2 c = omega (arith, few (c .before))
 
-mul-open-gap : tie.Need-mul-open-gap
-mul-open-gap c = search needs
+mul-at : tie.Need-mul-at
+mul-at c = search needs
 
-add-open-gap : tie.Need-add-open-gap
-add-open-gap c = search needs
+add-at : tie.Need-add-at
+add-at c = search needs
+
+-- there is room for one record more, and the place is no further than those there are
+module _ (c : tie.Then2) where
+  abbrev counted : tie.After-count
+  counted = c .before .before
+
+  room : usedLength (counted .count .result) + recordSize ≤ length (counted .before .before .before .args .book .now)
+  room = leb-true _ _ (c .if2 .taken)
+
+  inside : recordPlace (counted .before .before .before .args .i) ≤ usedLength (counted .count .result)
+  inside = omega (arith, c .before .if1 .taken)
+
+sub-open-gap : tie.Need-sub-open-gap
+sub-open-gap c = omega (arith, room c, inside c)
+
+part-open-gap-start : tie.Need-part-open-gap-start
+part-open-gap-start c = omega (arith, room c, inside c)
+
+part-open-gap-end : tie.Need-part-open-gap-end
+part-open-gap-end c = search needs
+
+sub-open-gap-2 : tie.Need-sub-open-gap-2
+sub-open-gap-2 c = inside (c .before)
 
 open-gap-requires : tie.Need-open-gap-requires
-open-gap-requires c κs = search needs
+open-gap-requires c κs = simp (length-take, length-drop) (omega (arith, room (c .before), inside (c .before)))
 
 put-record-requires : tie.Need-put-record-requires
 put-record-requires c κs = search needs
@@ -84,8 +109,12 @@ insert-record-spec =
     mul-used
     add-used
     add-if2
-    mul-open-gap
-    add-open-gap
+    mul-at
+    add-at
+    sub-open-gap
+    part-open-gap-start
+    part-open-gap-end
+    sub-open-gap-2
     open-gap-requires
     put-record-requires
     add-put-used

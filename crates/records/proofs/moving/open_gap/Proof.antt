@@ -7,31 +7,36 @@ use native.Mathlib.Omega.{arith}
 use borrow.Author.Needs.{needs}
 use lib.ListN.{length, getD, set, length-set}
 use Rattle.layout.specs.Layout.{recordSize}
-use Rattle.records.specs.Moves.{gapAt}
-use Rattle.records.proofs.Shifts.{gap-none, gap-turn}
+use Rattle.records.proofs.Shifts.{upFrom, up-none, up-all, up-turn}
 use Rattle.records.proofs.moving.open_gap.Statement.{statement}
 use Rattle.records.proofs.moving.open_gap.Tie as tie
 
 abbrev Inv-loop : tie.InvT-loop
-Inv-loop book₀ at used j₀ book j = (at ≤ j) × (j ≤ used) × (length book ≡ length book₀) × (book ≡ gapAt recordSize j used book₀)
+Inv-loop part₀ n j₀ part j = (j ≤ n) × (length part ≡ length part₀) × (part ≡ upFrom recordSize j n part₀)
 
 abbrev μ-loop : tie.MeasureT-loop
-μ-loop book₀ at used j₀ book j = j
+μ-loop part₀ n j₀ part j = j
 
 loop-holds : tie.Need-loop-holds Inv-loop μ-loop
-loop-holds c = (c .pre .0, omega arith, refl, gap-none recordSize (c .args .used) (c .args .book .now) (c .pre .1))
+loop-holds c = (omega arith, refl, up-none recordSize (c .args .n) (c .args .part .now) (c .pre))
+
+sub-part : tie.Need-sub-part Inv-loop μ-loop
+sub-part c = search needs
+
+slice-read-part : tie.Need-slice-read-part Inv-loop μ-loop
+slice-read-part c = search needs
+
+add-part : tie.Need-add-part Inv-loop μ-loop
+add-part c = search needs
+
+sub-part-2 : tie.Need-sub-part-2 Inv-loop μ-loop
+sub-part-2 c = search needs
+
+slice-write-part : tie.Need-slice-write-part Inv-loop μ-loop
+slice-write-part c = search needs
 
 sub-j : tie.Need-sub-j Inv-loop μ-loop
 sub-j c = search needs
-
-slice-read-book : tie.Need-slice-read-book Inv-loop μ-loop
-slice-read-book c = search needs
-
-add-book : tie.Need-add-book Inv-loop μ-loop
-add-book c = search needs
-
-slice-write-book : tie.Need-slice-write-book Inv-loop μ-loop
-slice-write-book c = search needs
 
 loop-less : tie.Need-loop-less Inv-loop μ-loop
 loop-less c = search needs
@@ -39,23 +44,24 @@ loop-less c = search needs
 loop-again : tie.Need-loop-again Inv-loop μ-loop
 loop-again c =
     let at-loop = c .before .before in
-    let at-start = at-loop .before in
+    let start = at-loop .before in
     let j : ℕ = at-loop .loop .j in (
       search needs,
-      search needs,
-      simp length-set (at-loop .loop .inv .2),
-      ap (λ (l : List ℕ). set l (j - 1 + recordSize) (getD l (j - 1) 0)) (at-loop .loop .inv .3)
-          ∙ gap-turn recordSize (at-start .args .used) (at-start .args .book .now) (at-start .pre .1) j (omega arith) (search needs) (search needs),
+      simp length-set (at-loop .loop .inv .1),
+      ap (λ (l : List ℕ). set l (j + recordSize - 1) (getD l (j - 1) 0)) (at-loop .loop .inv .2)
+          ∙ up-turn recordSize (start .args .n) (start .args .part .now) (start .pre) j (omega arith) (search needs) (search needs),
     )
 
 same-length : tie.Need-same-length Inv-loop μ-loop
-same-length c = c .before .loop .inv .2
+same-length c = c .before .loop .inv .1
 
 returns : tie.Need-returns Inv-loop μ-loop
 returns c =
-    let start = c .before .before .args in
-    let all : c .before .loop .j ≡ start .at = omega arith in
-    c .before .loop .inv .3 ∙ ap (λ (j : ℕ). gapAt recordSize j (start .used) (start .book .now)) all
+    let start = c .before .before in
+    let all : c .before .loop .j ≡ 0 = omega arith in
+    c .before .loop .inv .2
+    ∙ ap (λ (j : ℕ). upFrom recordSize j (start .args .n) (start .args .part .now)) all
+    ∙ up-all recordSize (start .args .n) (start .args .part .now) (start .pre)
 
 pub open-gap-spec : {M : Type 1} → statement M
 open-gap-spec =
@@ -64,10 +70,12 @@ open-gap-spec =
     Inv-loop
     μ-loop
     loop-holds
+    sub-part
+    slice-read-part
+    add-part
+    sub-part-2
+    slice-write-part
     sub-j
-    slice-read-book
-    add-book
-    slice-write-book
     loop-less
     loop-again
     same-length

@@ -1,10 +1,12 @@
 -- `records::moving::remove_record` meets its contract: the gap is closed, and the used length written; or nothing.
 -- Assumes nothing.
 use mathlib.Core.Logic.{⊎-elim}
-use Prim.Native.Nat.{_≤_}
+use Prim.Native.Nat.{_+_, _≤_}
 use native.Mathlib.Omega.{arith}
 use borrow.Author.Needs.{needs}
 use borrow.Author.Tests.{leb-true, leb-false}
+use lib.ListN.{length, length-take, length-drop}
+use Rattle.layout.specs.Layout.{recordSize, usedLength, recordPlace}
 use Rattle.records.proofs.Searching.{count-most}
 use Rattle.records.proofs.Guarded.{taken-out, none-there, not-within}
 use Rattle.records.proofs.moving.remove_record.Statement.{statement}
@@ -25,14 +27,40 @@ mul-used c = omega (arith, few c)
 add-used : tie.Need-add-used
 add-used c = omega (arith, few c)
 
-mul-close-gap : tie.Need-mul-close-gap
-mul-close-gap c = search needs
+mul-at : tie.Need-mul-at
+mul-at c = search needs
 
-add-close-gap : tie.Need-add-close-gap
-add-close-gap c = search needs
+add-at : tie.Need-add-at
+add-at c = search needs
+
+-- the records lie within the book, and this one is among them
+module _ (c : tie.Then2) where
+  abbrev counted : tie.After-count
+  counted = c .before .before
+
+  within : usedLength (counted .count .result) ≤ length (counted .before .before .before .args .book .now)
+  within = leb-true _ _ (c .if2 .taken)
+
+  inside : recordPlace (counted .before .before .before .args .i) + recordSize ≤ usedLength (counted .count .result)
+  inside = omega (arith, c .before .if1 .taken)
+
+sub-close-gap : tie.Need-sub-close-gap
+sub-close-gap c = omega (arith, within c, inside c)
+
+part-close-gap-start : tie.Need-part-close-gap-start
+part-close-gap-start c = omega (arith, within c, inside c)
+
+part-close-gap-end : tie.Need-part-close-gap-end
+part-close-gap-end c = search needs
+
+sub-close-gap-2 : tie.Need-sub-close-gap-2
+sub-close-gap-2 c = search needs
+
+sub-close-gap-3 : tie.Need-sub-close-gap-3
+sub-close-gap-3 c = omega (arith, inside (c .before))
 
 close-gap-requires : tie.Need-close-gap-requires
-close-gap-requires c κs = search needs
+close-gap-requires c κs = simp (length-take, length-drop) (omega (arith, within (c .before), inside (c .before)))
 
 sub-put-used : tie.Need-sub-put-used
 sub-put-used c = search needs
@@ -71,8 +99,13 @@ remove-record-spec =
     count-requires
     mul-used
     add-used
-    mul-close-gap
-    add-close-gap
+    mul-at
+    add-at
+    sub-close-gap
+    part-close-gap-start
+    part-close-gap-end
+    sub-close-gap-2
+    sub-close-gap-3
     close-gap-requires
     sub-put-used
     put-used-requires
