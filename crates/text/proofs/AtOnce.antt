@@ -12,7 +12,7 @@ use lib.Bits.{bitAnd, bitXor, and-zero-r, and-block, xor-block, and-le-r, xor-lt
 use lib.Dec.{T, eqb, ltb}
 use Rattle.bytes.specs.Numbers.{digits, bytesOf}
 use Rattle.bytes.specs.Every.{allOf}
-use Rattle.bytes.proofs.Every.{and-first, and-second, same-tests}
+use Rattle.bytes.proofs.Every.{and-first, and-second, either, same-tests}
 use Rattle.bytes.proofs.Tables.{computed}
 use Rattle.text.specs.Ascii.{byte}
 use Rattle.text.specs.Characters.{between, isDigit}
@@ -93,6 +93,13 @@ odd last n x = bitXor (bitXor (bitXor (x + bytesAll 80 n) (x + bytesAll 70 n)) (
 -- no top bit is set, and then each is
 unfoldable areUpTo : ℕ → ℕ → ℕ → Bool
 areUpTo last n x = eqb (tops n x) 0 && eqb (tops n (odd last n x)) (bytesAll 128 n)
+
+-- the last letters of the two alphabets
+pub last-letter : (last : ℕ) → (eqb last (byte "F") || eqb last (byte "Z")) ≡ true → (last ≡ byte "F") ⊎ (last ≡ byte "Z")
+last-letter last letter =
+    either (eqb last (byte "F"))
+    (λ e. inl (eqb-true last (byte "F") e))
+    (λ e. inr (eqb-true last (byte "Z") (rw e at letter)))
 
 -- of each byte, by computing it
 up-to-byte : (last l : ℕ) → (last ≡ byte "F") ⊎ (last ≡ byte "Z") → l < 256 → areUpTo last 1 l ≡ upTo last l

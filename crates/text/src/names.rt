@@ -1,11 +1,10 @@
 // The characters of a text of eight, tested all at once.
 ghost use mathlib.Core.Path.{_≡_};
-ghost use mathlib.Core.Bool.{_||_};
-ghost use mathlib.Core.Logic.{_⊎_};
+ghost use mathlib.Core.Bool.{true, _||_};
 ghost use Prim.Native.Nat.{ℕ};
+ghost use lib.Dec.{eqb};
 ghost use Rattle.bytes.specs.Numbers.{bytesOf};
 ghost use Rattle.bytes.specs.Every.{allOf};
-ghost use Rattle.text.specs.Ascii.{byte};
 ghost use Rattle.text.specs.Characters.{between, isDigit, isUpperHex, isNameCharacter};
 
 // The top bit of each byte.
@@ -21,10 +20,10 @@ const FROM_A: u64 = 0x3f3f_3f3f_3f3f_3f3f;
 // What repeats a byte eight times.
 const EIGHT: u64 = 0x0101_0101_0101_0101;
 
-// Whether the eight bytes of x are all of 0-9 or from A to the last letter. An odd number of the four top bits is set exactly for these characters.
+// Whether the eight bytes of x are all of 0-9 or from A to the last letter, F or Z. An odd number of the four top bits is set exactly for these characters.
 fn are_digits_or_capitals(last: u8, x: u64) -> bool
-    requires { ⌜ (last ≡ byte "F") ⊎ (last ≡ byte "Z") ⌝ }
-    ensures { λ r. ⌜ r ≡ allOf (λ (c : ℕ). isDigit c || between (byte "A") last c) (bytesOf 8 x) ⌝ }
+    requires { ⌜ (eqb last 70 || eqb last 90) ≡ true ⌝ }
+    ensures { λ r. ⌜ r ≡ allOf (λ (c : ℕ). isDigit c || between 65 last c) (bytesOf 8 x) ⌝ }
 {
     if x & TOP != 0 {
         return false;

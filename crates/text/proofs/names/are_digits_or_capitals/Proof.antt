@@ -5,13 +5,13 @@ use Prim.Native.Nat.{ℕ, _-_, _*_, _≤_}
 use native.Mathlib.Omega.{arith}
 use borrow.Author.Needs.{needs}
 use Rattle.text.specs.Ascii.{byte}
-use Rattle.text.proofs.AtOnce.{bytesAll, odd, one-set, none-set, none-above}
+use Rattle.text.proofs.AtOnce.{bytesAll, odd, last-letter, one-set, none-set, none-above}
 use Rattle.text.proofs.names.are_digits_or_capitals.Statement.{statement}
 use Rattle.text.proofs.names.are_digits_or_capitals.Tie as tie
 
 returns : tie.Need-returns
 unfolding bytesAll
-returns c = one-set (c .before .args .last) (c .before .pre) 8 (c .before .args .x) (c .if1 .taken)
+returns c = one-set (c .before .args .last) (last-letter _ (c .before .pre)) 8 (c .before .args .x) (c .if1 .taken)
 
 below : (c : tie.Else1) → c .before .args .x ≤ 9187201950435737471
 unfolding bytesAll
@@ -22,7 +22,7 @@ ascii last (inl e) = omega arith
 ascii last (inr e) = omega arith
 
 sub-past : tie.Need-sub-past
-sub-past c = ascii (c .before .args .last) (c .before .pre)
+sub-past c = ascii (c .before .args .last) (last-letter _ (c .before .pre))
 
 cast-past : tie.Need-cast-past
 cast-past c = search needs
@@ -51,7 +51,7 @@ returns-2 : tie.Need-returns-2
 unfolding bytesAll odd
 returns-2 c =
     let last = c .before .args .last in
-    rw (eight (127 - last)) (none-set last (c .before .pre) 8 (c .before .args .x) (c .if1 .left))
+    rw (eight (127 - last)) (none-set last (last-letter _ (c .before .pre)) 8 (c .before .args .x) (c .if1 .left))
 
 pub are-digits-or-capitals-spec : {M : Type 1} → statement M
 are-digits-or-capitals-spec =

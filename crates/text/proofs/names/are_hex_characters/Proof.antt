@@ -1,12 +1,11 @@
 -- `text::names::are_hex_characters` meets its contract. Assumes nothing.
 use mathlib.Core.Path.{refl}
-use mathlib.Core.Logic.{inl}
 use Rattle.text.specs.Characters.{isUpperHex}
 use Rattle.text.proofs.names.are_hex_characters.Statement.{statement}
 use Rattle.text.proofs.names.are_hex_characters.Tie as tie
 
 are-digits-or-capitals-requires : tie.Need-are-digits-or-capitals-requires
-are-digits-or-capitals-requires c κs = inl refl
+are-digits-or-capitals-requires c κs = refl
 
 returns : tie.Need-returns
 unfolding isUpperHex

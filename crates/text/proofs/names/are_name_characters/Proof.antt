@@ -1,12 +1,11 @@
 -- `text::names::are_name_characters` meets its contract. Assumes nothing.
 use mathlib.Core.Path.{refl}
-use mathlib.Core.Logic.{inr}
 use Rattle.text.specs.Characters.{isNameCharacter}
 use Rattle.text.proofs.names.are_name_characters.Statement.{statement}
 use Rattle.text.proofs.names.are_name_characters.Tie as tie
 
 are-digits-or-capitals-requires : tie.Need-are-digits-or-capitals-requires
-are-digits-or-capitals-requires c κs = inr refl
+are-digits-or-capitals-requires c κs = refl
 
 returns : tie.Need-returns
 unfolding isNameCharacter
