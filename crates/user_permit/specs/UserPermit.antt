@@ -78,7 +78,7 @@ abbrev pub readUnder : Maker → List ℕ → UserPermit
 readUnder (Key key) permit = shipOf (unpadOf 5 (decipherOf (makerWords key) (hexNumber (part 16 permit 0)))) (permitMId permit)
 readUnder Unknown permit = Refused 107
 
--- what one says by the register's entries
+-- what one says by the register's entries: 106, 17, 107, 18 in their order, or its ship
 unfoldable pub permitSays : List ℕ → List ℕ → UserPermit
 permitSays register permit =
     demand (isPermitText permit) (Refused 106)
