@@ -1,6 +1,6 @@
 pub mod Fits
 pub mod DateTexts
-pub mod Identified
+pub mod Filled
 pub mod OnePlace
 pub mod Outputs
 pub mod NamesAt

@@ -1,56 +1,55 @@
 // Identifiers as numbers: whether the bytes of a number have an identifier's form.
 ghost use mathlib.Core.Path.{_≡_};
-ghost use Rattle.text.specs.Characters.{testOf};
+ghost use Rattle.text.specs.Characters.{isUpperHex, isNameCharacter};
 ghost use Rattle.forms.specs.Identifiers.{isText, isHwId, isMKey, isMId, isCellName, isServerId};
-use text::characters::Alphabet;
+use text::names::are_hex_characters;
+use text::names::are_name_characters;
 
-// Whether x is the number of n bytes that are all of the alphabet. The bytes are taken from the low end.
-fn is_text(alphabet: Alphabet, n: usize, x: u64) -> bool
-    ensures { λ r. ⌜ r ≡ isText (testOf alphabet) n x ⌝ }
+// Whether x is the number of five of 0-9 A-F, tested at once with "000" before them.
+fn is_hex_5(x: u64) -> bool
+    ensures { λ r. ⌜ r ≡ isText isUpperHex 5 x ⌝ }
 {
-    let mut rest = x;
-    let mut i: usize = 0;
-    while i < n {
-        if !text::characters::is_of(alphabet, (rest % 256) as u8) {
-            return false;
-        }
-        rest = rest / 256;
-        i += 1;
-    }
-    rest == 0
+    x < 0x100_0000_0000 && are_hex_characters(0x3030_3000_0000_0000 + x)
+}
+
+// Whether x is the number of two of A-Z 0-9, tested at once with "000000" before them.
+fn is_name_2(x: u32) -> bool
+    ensures { λ r. ⌜ r ≡ isText isNameCharacter 2 x ⌝ }
+{
+    x < 0x1_0000 && are_name_characters(0x3030_3030_3030_0000 + x as u64)
 }
 
 // HW_ID: five of 0-9 A-F.
 pub fn is_hw_id(x: u64) -> bool
     ensures { λ r. ⌜ r ≡ isHwId x ⌝ }
 {
-    is_text(Alphabet::Hex, 5, x)
+    is_hex_5(x)
 }
 
 // M_KEY: five of 0-9 A-F.
 pub fn is_m_key(x: u64) -> bool
     ensures { λ r. ⌜ r ≡ isMKey x ⌝ }
 {
-    is_text(Alphabet::Hex, 5, x)
+    is_hex_5(x)
 }
 
 // M_ID: two of A-Z 0-9.
 pub fn is_m_id(x: u32) -> bool
     ensures { λ r. ⌜ r ≡ isMId x ⌝ }
 {
-    is_text(Alphabet::Name, 2, x as u64)
+    is_name_2(x)
 }
 
 // Cell name: eight of A-Z 0-9.
 pub fn is_cell_name(x: u64) -> bool
     ensures { λ r. ⌜ r ≡ isCellName x ⌝ }
 {
-    text::names::are_name_characters(x)
+    are_name_characters(x)
 }
 
 // Data Server ID: two of A-Z 0-9.
 pub fn is_server_id(x: u32) -> bool
     ensures { λ r. ⌜ r ≡ isServerId x ⌝ }
 {
-    is_text(Alphabet::Name, 2, x as u64)
+    is_name_2(x)
 }

@@ -21,7 +21,7 @@ use Rattle.crc32.proofs.OneChange.{one-change}
 use Rattle.forms.specs.Order.{demand}
 use Rattle.forms.proofs.OnePlace.{part-before, part-after, part-differs}
 use Rattle.user_permit.specs.Register.{isRegister}
-use Rattle.user_permit.specs.UserPermit.{isPermitText, isCrcRight, readPermit}
+use Rattle.user_permit.specs.UserPermit.{isPermitText, isCrcRight, permitSays, readPermit}
 use Rattle.user_permit.specs.OneCharacter.{isShip, UserPermitGuarded}
 use Rattle.user_permit.specs.declared.UserPermit.{UserPermit}
 use Rattle.user_permit.specs.declared.UserPermit.the-variants.{Refused}
@@ -39,7 +39,7 @@ record Accepted (s : List ℕ) : Type 0 where
   crc : hexNumber (part 8 s 16) ≡ crc32Of (part 16 s 0)
 
 accepted : (register s : List ℕ) → isShip (readPermit register s) ≡ true → Accepted s
-unfolding readPermit isCrcRight
+unfolding readPermit permitSays isCrcRight
 accepted register s ship =
     let checked = demanded (isPermitText s) 106 _ (demanded (isRegister register) 109 _ ship .1) in
     let crc = demanded (isCrcRight s) 17 _ (checked .1) .0 in

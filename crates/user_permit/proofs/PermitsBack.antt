@@ -2,7 +2,7 @@
 use mathlib.Core.Path.{_≡_, refl, sym, ap, ap₂, _∙_}
 use mathlib.Core.Bool.{true}
 use mathlib.Core.List.{List}
-use Prim.Native.Nat.{ℕ, _-_, _^_, _<_}
+use Prim.Native.Nat.{ℕ, _^_, _<_}
 use native.Mathlib.Omega.{arith}
 use borrow.Author.Tests.{ltb-true}
 use lib.Dec.{ltb}
@@ -26,7 +26,7 @@ use Rattle.user_permit.specs.Register.{keyOf}
 use Rattle.user_permit.specs.UserPermit.{makerWords, hwIdPart, crcPart, mIdPart, userPermit, isCrcRight, permitMId, shipOf}
 use Rattle.user_permit.specs.ReadBack.{UserPermitReadsBack}
 use Rattle.user_permit.proofs.Registers.{found-id}
-use Rattle.user_permit.proofs.UserPermits.{a-ship, permit-length, first-part, second-part, third-part, permit-hex, permit-text, crc-right, made-text, read-known}
+use Rattle.user_permit.proofs.UserPermits.{a-ship, permit-length, first-part, second-part, third-part, permit-hex, permit-text, crc-right, made-text, says-known, read-undamaged}
 
 crc-fits : (s : List ℕ) → crc32Of s < 16 ^ 8
 unfolding crc32Of
@@ -70,6 +70,7 @@ user-permit-reads-back register key hw m room below good right found long =
     let size : length permit ≡ 28 = permit-length key hw m in
     let id : permitMId permit ≡ m = permit-m-id key hw m (found-id register m key below found) in
     let read =
-    read-known register permit good (permit-text permit size (permit-hex key hw m)) (permit-crc-right key hw m) key
+    read-undamaged register permit good
+    ∙ says-known register permit (permit-text permit size (permit-hex key hw m)) (permit-crc-right key hw m) key
     (ap (keyOf register) id ∙ found) in
     (made-text register hw m room good long right key found, (size, read ∙ ap₂ shipOf (permit-hw-id key hw m right) id ∙ a-ship (Number hw) hw m refl right))

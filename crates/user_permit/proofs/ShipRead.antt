@@ -13,7 +13,7 @@ use Rattle.blowfish.specs.Cipher.{decipherOf}
 use Rattle.forms.specs.Order.{demand}
 use Rattle.forms.specs.Identifiers.{isHwId}
 use Rattle.user_permit.specs.Register.{isRegister, keyOf}
-use Rattle.user_permit.specs.UserPermit.{makerWords, isPermitText, isCrcRight, permitMId, shipOf, readUnder, readPermit}
+use Rattle.user_permit.specs.UserPermit.{makerWords, isPermitText, isCrcRight, permitMId, shipOf, readUnder, permitSays, readPermit}
 use Rattle.user_permit.specs.Laws.{ShipForm}
 use Rattle.user_permit.specs.declared.register.Maker.{Maker}
 use Rattle.user_permit.specs.declared.register.Maker.the-variants.{Key, Unknown}
@@ -43,7 +43,7 @@ module _ (hw m : ℕ) where
   maker-form Unknown permit ship = cc
 
 pub ship-form : ShipForm
-unfolding readPermit
+unfolding readPermit permitSays
 ship-form hw m register permit ship =
     let one = passed (isRegister register) 109 hw m _ ship in
     let two = passed (isPermitText permit) 106 hw m _ (one .1) in

@@ -3,7 +3,7 @@
 use mathlib.Core.Path.{_≡_, refl, sym, ap, ap₂, _∙_}
 use mathlib.Core.Bool.{true, false}
 use mathlib.Core.List.{List, [], _++_, append-assoc, append-nil}
-use Prim.Native.Nat.{ℕ, _+_, _-_, _≤_, _<_}
+use Prim.Native.Nat.{ℕ, _+_, _≤_, _<_}
 use native.Mathlib.Omega.{arith}
 use borrow.Author.Tests.{eq-eqb, ne-eqb, le-leb, lt-leb, eqb-true}
 use lib.Dec.{eqb}
@@ -29,7 +29,8 @@ use Rattle.blowfish.proofs.Keys.{taken}
 use Rattle.forms.specs.Identifiers.{isHwId}
 use Rattle.forms.specs.Output.{text, refusal}
 use Rattle.user_permit.specs.Register.{isRegister, keyOf}
-use Rattle.user_permit.specs.UserPermit.{makerWords, hwIdPart, crcPart, mIdPart, userPermit, made, isPermitText, isCrcRight, permitMId, shipOf, readPermit}
+use Rattle.user_permit.specs.UserPermit.{makerWords, hwIdPart, crcPart, mIdPart, userPermit, made, isPermitText, isCrcRight, permitMId, shipOf, permitSays, readPermit}
+use Rattle.user_permit.specs.Laws.{ReadUndamaged}
 use Rattle.user_permit.specs.declared.register.Maker.the-variants.{Key, Unknown}
 use Rattle.user_permit.specs.declared.UserPermit.the-variants.{Ship, Refused}
 
@@ -184,26 +185,29 @@ module _ (register : List ℕ) (hw m room : ℕ) where
         made-text key found = rw (good, le-leb 28 room long, right, found)
 
 module _ (register permit : List ℕ) where
+  pub says-no-text : isPermitText permit ≡ false → permitSays register permit ≡ Refused 106
+  unfolding permitSays
+  says-no-text bad = rw bad
+
+  module _ (hex-text : isPermitText permit ≡ true) where
+    pub says-wrong-crc : isCrcRight permit ≡ false → permitSays register permit ≡ Refused 17
+    unfolding permitSays
+    says-wrong-crc bad = rw (hex-text, bad)
+
+    module _ (right : isCrcRight permit ≡ true) where
+      pub says-unknown : keyOf register (permitMId permit) ≡ Unknown → permitSays register permit ≡ Refused 107
+      unfolding permitSays
+      says-unknown none = rw (hex-text, right, none)
+
+      pub says-known : (key : ℕ) → keyOf register (permitMId permit) ≡ Key key
+          → permitSays register permit ≡ shipOf (unpadOf 5 (decipherOf (makerWords key) (hexNumber (part 16 permit 0)))) (permitMId permit)
+      unfolding permitSays
+      says-known key found = rw (hex-text, right, found)
+
   pub read-damaged : isRegister register ≡ false → readPermit register permit ≡ Refused 109
   unfolding readPermit
   read-damaged bad = rw bad
 
-  module _ (good : isRegister register ≡ true) where
-    pub read-no-text : isPermitText permit ≡ false → readPermit register permit ≡ Refused 106
-    unfolding readPermit
-    read-no-text bad = rw (good, bad)
-
-    module _ (hex-text : isPermitText permit ≡ true) where
-      pub read-wrong-crc : isCrcRight permit ≡ false → readPermit register permit ≡ Refused 17
-      unfolding readPermit
-      read-wrong-crc bad = rw (good, hex-text, bad)
-
-      module _ (right : isCrcRight permit ≡ true) where
-        pub read-unknown : keyOf register (permitMId permit) ≡ Unknown → readPermit register permit ≡ Refused 107
-        unfolding readPermit
-        read-unknown none = rw (good, hex-text, right, none)
-
-        pub read-known : (key : ℕ) → keyOf register (permitMId permit) ≡ Key key
-            → readPermit register permit ≡ shipOf (unpadOf 5 (decipherOf (makerWords key) (hexNumber (part 16 permit 0)))) (permitMId permit)
-        unfolding readPermit
-        read-known key found = rw (good, hex-text, right, found)
+pub read-undamaged : ReadUndamaged
+unfolding readPermit
+read-undamaged register permit good = rw good

@@ -78,13 +78,16 @@ abbrev pub readUnder : Maker → List ℕ → UserPermit
 readUnder (Key key) permit = shipOf (unpadOf 5 (decipherOf (makerWords key) (hexNumber (part 16 permit 0)))) (permitMId permit)
 readUnder Unknown permit = Refused 107
 
+-- what one says by the register's entries: 106, 17, 107, 18 in their order, or its ship
+unfoldable pub permitSays : List ℕ → List ℕ → UserPermit
+permitSays register permit =
+    demand (isPermitText permit) (Refused 106)
+    (demand (isCrcRight permit) (Refused 17)
+    (readUnder (keyOf register (permitMId permit)) permit))
+
 -- reading one
 unfoldable pub readPermit : List ℕ → List ℕ → UserPermit
-readPermit register permit =
-    demand (isRegister register) (Refused 109)
-    (demand (isPermitText permit) (Refused 106)
-    (demand (isCrcRight permit) (Refused 17)
-    (readUnder (keyOf register (permitMId permit)) permit)))
+readPermit register permit = demand (isRegister register) (Refused 109) (permitSays register permit)
 
 -- the answer's number: 0 for a ship
 abbrev pub userPermitNumber : UserPermit → ℕ

@@ -6,7 +6,7 @@ ghost use lib.ListN.{length, drop};
 ghost use Rattle.bytes.specs.Padding.{padOf, unpadOf};
 ghost use Rattle.blowfish.specs.Cipher.{encipherOf, decipherOf};
 ghost use Rattle.forms.specs.Output.{writtenOf, lentAfter};
-ghost use Rattle.user_permit.specs.UserPermit.{makerWords, userPermit, made, shipOf, readPermit};
+ghost use Rattle.user_permit.specs.UserPermit.{makerWords, userPermit, made, shipOf, permitSays, readPermit};
 use bytes::numbers::Reading;
 use forms::Written;
 use forms::identifiers::is_hw_id;
@@ -88,13 +88,10 @@ fn ship_of(key: u64, block: u64, m: u32) -> UserPermit
     UserPermit::Ship { hw_id: hw, m_id: m }
 }
 
-// The HW_ID and M_ID that a user permit says.
-pub fn read_user_permit(register: &[u8], permit: &[u8]) -> UserPermit
-    ensures { λ r. ⌜ r ≡ readPermit (now (register .entry)) (now (permit .entry)) ⌝ }
+// The HW_ID and M_ID that a user permit says, by a register that the caller has judged.
+pub fn read_by(register: &[u8], permit: &[u8]) -> UserPermit
+    ensures { λ r. ⌜ r ≡ permitSays (now (register .entry)) (now (permit .entry)) ⌝ }
 {
-    if !is_register(register) {
-        return UserPermit::Refused(109);
-    }
     if permit.len() != 28 {
         return UserPermit::Refused(106);
     }
@@ -114,4 +111,14 @@ pub fn read_user_permit(register: &[u8], permit: &[u8]) -> UserPermit
         return UserPermit::Refused(107);
     };
     ship_of(key, block, m as u32)
+}
+
+// The same by any register: 109 for a damaged one.
+pub fn read_user_permit(register: &[u8], permit: &[u8]) -> UserPermit
+    ensures { λ r. ⌜ r ≡ readPermit (now (register .entry)) (now (permit .entry)) ⌝ }
+{
+    if !is_register(register) {
+        return UserPermit::Refused(109);
+    }
+    read_by(register, permit)
 }
