@@ -1,7 +1,6 @@
 -- `cell_permit::checked` meets its contract. 13, then 21.
 -- Assumes nothing.
 use mathlib.Core.Path.{_≡_, sym, _∙_}
-use native.Mathlib.Omega.{arith}
 use borrow.Author.Needs.{needs}
 use lib.Seq.{length-take-le}
 use Rattle.bytes.specs.declared.numbers.Reading.the-variants.{Number}
