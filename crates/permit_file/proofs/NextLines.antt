@@ -39,6 +39,7 @@ module _ (file : List ℕ) (place : ℕ) where
       (omega (arith, passed .1 .1), omega (arith, passed .1 .1))
 
   module _ (read : List ℕ → Line) where
+    -- what a step gives, by its head
     abbrev from : Next → Step
     from (next.Line end) = onward (read (take (end - place) (drop place file))) (cursor (end + 2))
     from (next.Answer s) = s
