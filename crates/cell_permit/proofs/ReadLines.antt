@@ -4,6 +4,7 @@ use mathlib.Core.Path.{_≡_, refl}
 use mathlib.Core.Bool.{Bool, true, false, cond}
 use mathlib.Core.List.{List}
 use Prim.Native.Nat.{ℕ, _≤_, _<_}
+use native.Mathlib.Omega.{arith}
 use borrow.Author.Tests.{le-leb, lt-leb, eq-eqb, ne-eqb}
 use lib.ListN.{length, take}
 use Rattle.bytes.specs.declared.numbers.Reading.the-variants.{Number, Wrong}
@@ -20,7 +21,6 @@ use Rattle.cell_permit.specs.declared.FieldParts.{FieldParts}
 use Rattle.cell_permit.specs.declared.Fields.the-variants as fields
 use Rattle.cell_permit.specs.declared.Parts.{Parts}
 use Rattle.cell_permit.specs.declared.Shape.the-variants as shape
-use Rattle.cell_permit.specs.declared.Line.{Line}
 use Rattle.cell_permit.specs.declared.Line.the-variants.{Record, Refused}
 use Rattle.cell_permit.proofs.GoodLine.{good-line}
 
@@ -90,10 +90,6 @@ module _ (line : List ℕ) where
         is-line =
             rw (le-leb (length line) 160 short, permit-there .0, fields-there .0, permit-there .1, fields-there .1)
 
-  -- the permit's 64 bytes lie within a line
-  pub permit-within : isLine line ≡ true → 64 ≤ length line
-  permit-within good = all-within isHex 16 line 48 (good-line line good .check)
-
 module _ (line : List ℕ) (p : Parts) (made : shapeOf line ≡ shape.Line p) where
   pub line-good : isLine line ≡ true
   unfolding shapeOf
@@ -103,30 +99,34 @@ module _ (line : List ℕ) (p : Parts) (made : shapeOf line ≡ shape.Line p) wh
   unfolding shapeOf
   parts = shape-made (isLine line) (partsOf line) p made .1
 
+  -- the 48 characters that the check is of lie within a line
+  pub unchecked-within : 48 ≤ length line
+  unchecked-within = omega (arith, all-within isHex 16 line 48 (good-line line line-good .check))
+
 module _ (words : List ℕ) (today days : ℕ) (line : List ℕ) where
   pub refused-12 : shapeOf line ≡ shape.Wrong → Refused 12 ≡ readWith words today days line
   unfolding readWith shapeOf
   refused-12 wrong = rw (shape-wrong (isLine line) (partsOf line) wrong)
 
-  module _ (p : Parts) (made : shapeOf line ≡ shape.Line p) where
-    on-parts : readWith words today days line ≡ checked words today days line p
+  module _ (p : Parts) where
+    pub on-parts : shapeOf line ≡ shape.Line p → checked words today days line p ≡ readWith words today days line
     unfolding readWith
-    on-parts = rw (line-good line p made, parts line p made)
+    on-parts made = rw (line-good line p made, parts line p made)
 
     module _ (k : ℕ) (check-there : k ≡ checkOf words (take 48 line)) where
-      pub refused-13 : (p .check ≡ k → ⊥) → Refused 13 ≡ readWith words today days line
+      pub refused-13 : (p .check ≡ k → ⊥) → Refused 13 ≡ checked words today days line p
       unfolding checked
-      refused-13 other = rw (on-parts, ← check-there, ne-eqb (p .check) k other)
+      refused-13 other = rw (← check-there, ne-eqb (p .check) k other)
 
       module _ (right : p .check ≡ k) where
-        pub refused-21-one : keyUnder words (p .block1) ≡ Wrong → Refused 21 ≡ readWith words today days line
+        pub refused-21-one : keyUnder words (p .block1) ≡ Wrong → Refused 21 ≡ checked words today days line p
         unfolding checked
-        refused-21-one wrong = rw (on-parts, ← check-there, eq-eqb (p .check) k right, wrong)
+        refused-21-one wrong = rw (← check-there, eq-eqb (p .check) k right, wrong)
 
         module _ (one : ℕ) (made-one : keyUnder words (p .block1) ≡ Number one) where
-          pub refused-21-two : keyUnder words (p .block2) ≡ Wrong → Refused 21 ≡ readWith words today days line
+          pub refused-21-two : keyUnder words (p .block2) ≡ Wrong → Refused 21 ≡ checked words today days line p
           unfolding checked
-          refused-21-two wrong = rw (on-parts, ← check-there, eq-eqb (p .check) k right, made-one, wrong)
+          refused-21-two wrong = rw (← check-there, eq-eqb (p .check) k right, made-one, wrong)
 
           pub is-record : (two : ℕ) (notice : Notice) → keyUnder words (p .block2) ≡ Number two → notice ≡ noticeOf (daysLeft today (p .expiry)) days
               → Record (record {
@@ -139,17 +139,16 @@ module _ (words : List ℕ) (today days : ℕ) (line : List ℕ) where
                 server = p .server;
                 notice = notice;
               })
-              ≡ readWith words today days line
+              ≡ checked words today days line p
           unfolding checked
           is-record two notice made-two noticed =
-              rw (on-parts, ← check-there, eq-eqb (p .check) k right, made-one, made-two, noticed)
+              rw (← check-there, eq-eqb (p .check) k right, made-one, made-two, noticed)
 
 module _ (hw today days : ℕ) (line : List ℕ) (n : ℕ) (given : n ≡ givenNumber hw today days) where
   pub not-given : (n ≡ 0 → ⊥) → Refused n ≡ readLine hw today days line
   unfolding readLine
   not-given other = rw (← given, ne-eqb n 0 other)
 
-  pub is-given : n ≡ 0 → (words : List ℕ) (answer : Line) → words ≡ shipWords hw → answer ≡ readWith words today days line
-      → answer ≡ readLine hw today days line
+  pub is-given : n ≡ 0 → readWith (shipWords hw) today days line ≡ readLine hw today days line
   unfolding readLine
-  is-given none words answer ship made = rw (← given, eq-eqb n 0 none, ← ship) made
+  is-given none = rw (← given, eq-eqb n 0 none)

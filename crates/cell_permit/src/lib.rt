@@ -1,12 +1,12 @@
 // A line of PERMIT.TXT: a cell permit with its service level, edition, Data Server ID and comment.
 ghost use mathlib.Core.Path.{_≡_};
 ghost use Prim.Native.Nat.{_≤_};
-ghost use lib.ListN.{getD};
+ghost use lib.ListN.{length, getD};
 ghost use denote.Ref.{ptr};
 ghost use Rattle.bytes.specs.Places.{pointAt};
 ghost use Rattle.text.specs.Characters.{isDigit};
 ghost use Rattle.cell_permit.specs.CellPermit.{shipWords, checkOf};
-ghost use Rattle.cell_permit.specs.Line.{commaAt, editionLength, shapeOf, commentOf, commentAt, commentStart, keyUnder, givenNumber, readWith, readLine, lineNumber};
+ghost use Rattle.cell_permit.specs.Line.{commaAt, editionLength, shapeOf, commentOf, commentAt, commentStart, keyUnder, checked, givenNumber, readWith, readLine, lineNumber};
 ghost use Rattle.cell_permit.specs.LineParts.{permitOf, isLevelPart, isServerPart, fieldsOf};
 use bytes::numbers::Reading;
 use text::characters::Alphabet;
@@ -277,13 +277,11 @@ pub fn comment(line: &[u8]) -> &[u8]
     &line[at..]
 }
 
-// A line read under the words of a ship.
-pub fn read_with(words: &[u32; 1042], today: u32, days: u32, line: &[u8]) -> Line
-    ensures { λ r. ⌜ r ≡ readWith (now (words .entry)) today days (now (line .entry)) ⌝ }
+// A line that was taken apart, read under the words of a ship: 13 for its check, then 21 for its keys.
+fn checked(words: &[u32; 1042], today: u32, days: u32, line: &[u8], p: Parts) -> Line
+    requires { ⌜ 48 ≤ length (now line) ⌝ }
+    ensures { λ r. ⌜ r ≡ checked (now (words .entry)) today days (now (line .entry)) p ⌝ }
 {
-    let Shape::Line(p) = shape_of(line) else {
-        return Line::Refused(12);
-    };
     if p.check != check_of(words, &line[..48]) {
         return Line::Refused(13);
     }
@@ -303,6 +301,28 @@ pub fn read_with(words: &[u32; 1042], today: u32, days: u32, line: &[u8]) -> Lin
         server: p.server,
         notice: dates::notice_of(today, p.expiry, days),
     })
+}
+
+// A line read under the words of a ship.
+pub fn read_with(words: &[u32; 1042], today: u32, days: u32, line: &[u8]) -> Line
+    ensures { λ r. ⌜ r ≡ readWith (now (words .entry)) today days (now (line .entry)) ⌝ }
+{
+    let Shape::Line(p) = shape_of(line) else {
+        return Line::Refused(12);
+    };
+    checked(words, today, days, line, p)
+}
+
+// A line read for a ship: its shape is looked at first, and the ship's words are set up only where it has it.
+pub fn read_for(hw: u64, today: u32, days: u32, line: &[u8]) -> Line
+    ensures { λ r. ⌜ r ≡ readWith (shipWords hw) today days (now (line .entry)) ⌝ }
+{
+    let Shape::Line(p) = shape_of(line) else {
+        return Line::Refused(12);
+    };
+    let mut words = [0u32; 1042];
+    ship_words(hw, &mut words);
+    checked(&words, today, days, line, p)
 }
 
 // The answer's number: a record's is that of its notice.
@@ -342,7 +362,5 @@ pub fn read_line(hw: u64, today: u32, days: u32, line: &[u8]) -> Line
     if number != 0 {
         return Line::Refused(number);
     }
-    let mut words = [0u32; 1042];
-    ship_words(hw, &mut words);
-    read_with(&words, today, days, line)
+    read_for(hw, today, days, line)
 }

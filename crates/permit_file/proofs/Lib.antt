@@ -1,4 +1,5 @@
 pub mod Lines
 pub mod Ends
+pub mod NextLines
 pub mod Steps
 pub mod Headers

@@ -1,13 +1,13 @@
 -- Places rise until the end, which stays and is reached within as many steps as the file has bytes.
 -- Assumes nothing.
-use mathlib.Core.Path.{_≡_, refl, sym}
+use mathlib.Core.Path.{_≡_, refl}
 use mathlib.Core.Bool.{Bool, true, false}
 use mathlib.Core.List.{List}
 use Prim.Native.Nat.{ℕ, zero, suc, _+_, _-_, _≤_, _<_}
 use native.Mathlib.Omega.{arith}
 use borrow.Author.Tests.{le-leb, ltb-true, eq-eqb, ne-eqb}
 use lib.Dec.{leb, ltb}
-use lib.ListN.{length, take, drop}
+use lib.ListN.{length}
 use Rattle.bytes.proofs.Every.{either}
 use Rattle.cell_permit.specs.CellPermit.{shipWords}
 use Rattle.cell_permit.specs.Line.{givenNumber}
@@ -16,7 +16,7 @@ use Rattle.cell_permit.specs.declared.Line.the-variants as line
 use Rattle.permit_file.specs.File.{cursor, lineEnds, lineAt, endsAt, onward, stepBy, stepWith, stepOf, isEnd, nextPlace}
 use Rattle.permit_file.specs.Steps.{placeAfter, PlacesRise, EndStays, FileEnds}
 use Rattle.permit_file.specs.declared.Step.the-variants.{Record, Refused, End}
-use Rattle.permit_file.proofs.Ends.{ends-with-bytes, line-between}
+use Rattle.permit_file.proofs.Ends.{ends-with-bytes}
 use Rattle.permit_file.proofs.Lines.{begins-first, next-within}
 
 never-both : (t : Bool) → t ≡ false → t ≡ true → ⊥
@@ -31,30 +31,25 @@ onward-no-end (line.Record r) place = refl
 onward-no-end (line.Refused n) place = refl
 
 module _ (read : List ℕ → Line) (file : List ℕ) (place : ℕ) where
-  pub beyond : leb place (length file) ≡ false → stepBy read file place ≡ Refused 12 (cursor (length file))
+  beyond : leb place (length file) ≡ false → stepBy read file place ≡ Refused 12 (cursor (length file))
   unfolding stepBy
   beyond past = rw past
 
-  pub at-end : leb place (length file) ≡ true → endsAt file place ≡ true → stepBy read file place ≡ End (cursor place)
+  at-end : leb place (length file) ≡ true → endsAt file place ≡ true → stepBy read file place ≡ End (cursor place)
   unfolding stepBy
   at-end within end = rw (within, end)
 
-  pub unended
+  unended
       : leb place (length file) ≡ true → endsAt file place ≡ false → ltb (lineEnds file place) (length file) ≡ false
       → stepBy read file place ≡ Refused 12 (cursor (length file))
   unfolding stepBy
   unended within on runs = rw (within, on, runs)
 
-  pub one-line
+  one-line
       : leb place (length file) ≡ true → endsAt file place ≡ false → ltb (lineEnds file place) (length file) ≡ true
       → stepBy read file place ≡ onward (read (lineAt file place)) (cursor (lineEnds file place + 2))
   unfolding stepBy
   one-line within on closed = rw (within, on, closed)
-
-  pub line-read
-      : (end : ℕ) → end ≡ lineEnds file place → leb place (length file) ≡ true → endsAt file place ≡ false → ltb (lineEnds file place) (length file) ≡ true
-      → onward (read (take (end - place) (drop place file))) (cursor (end + 2)) ≡ stepBy read file place
-  line-read end e within on closed = rw (e, line-between file place) (sym (one-line within on closed))
 
   rises
       : place ≤ length file → endsAt file place ≡ false

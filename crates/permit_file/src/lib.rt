@@ -3,6 +3,7 @@ ghost use mathlib.Core.Path.{_≡_};
 ghost use Prim.Native.Nat.{_≤_};
 ghost use lib.ListN.{length};
 ghost use Rattle.permit_file.specs.File.{lineEnds, endsAt, onward, stepWith, stepOf, openOf, openNumber};
+ghost use Rattle.permit_file.specs.NextLine.{nextLine};
 use cell_permit::Line;
 
 mod header; // header.rt: the header's tests
@@ -23,6 +24,12 @@ pub enum Step {
     Record(cell_permit::Record, Cursor),
     Refused(u32, Cursor),
     End(Cursor),
+}
+
+// Where the next line ends, or the answer of a step that reads none.
+enum Next {
+    Line(usize),
+    Answer(Step),
 }
 
 // The number of an opening: 0 for a place.
@@ -94,25 +101,37 @@ pub fn open(file: &[u8]) -> Opened
     Opened::At(Cursor { place })
 }
 
+// Where the next line is, or what a step answers that reads none: no key is needed for it.
+fn next_line(file: &[u8], place: usize) -> Next
+    ensures { λ r. ⌜ r ≡ nextLine (now (file .entry)) place ⌝ }
+{
+    let size = file.len();
+    if size < place {
+        return Next::Answer(Step::Refused(12, Cursor { place: size }));
+    }
+    let end = line_ends(file, place);
+    if ends_at(file, place, end) {
+        return Next::Answer(Step::End(Cursor { place }));
+    }
+    if end == size {
+        return Next::Answer(Step::Refused(12, Cursor { place: size }));
+    }
+    Next::Line(end)
+}
+
 impl Cursor {
     // One step under the words of a ship: the line that begins at the cursor's place is read.
     pub fn step_with(self, file: &[u8], words: &[u32; 1042], today: u32, days: u32) -> Step
         ensures { λ r. ⌜ r ≡ stepWith (now (words .entry)) today days (now (file .entry)) (self .place) ⌝ }
     {
         let place = self.place;
-        let size = file.len();
-        if size < place {
-            return Step::Refused(12, Cursor { place: size });
+        match next_line(file, place) {
+            Next::Line(end) => {
+                let line = cell_permit::read_with(words, today, days, &file[place..end]);
+                onward(line, Cursor { place: end + 2 })
+            }
+            Next::Answer(answer) => answer,
         }
-        let end = line_ends(file, place);
-        if ends_at(file, place, end) {
-            return Step::End(Cursor { place });
-        }
-        if end == size {
-            return Step::Refused(12, Cursor { place: size });
-        }
-        let line = cell_permit::read_with(words, today, days, &file[place..end]);
-        onward(line, Cursor { place: end + 2 })
     }
 
     // One step. 18, 14 and 103 come first, and answer with the place that was given.
@@ -124,8 +143,12 @@ impl Cursor {
         if given != 0 {
             return Step::Refused(given, Cursor { place });
         }
-        let mut words = [0u32; 1042];
-        cell_permit::ship_words(hw, &mut words);
-        Cursor { place }.step_with(file, &words, today, days)
+        match next_line(file, place) {
+            Next::Line(end) => {
+                let line = cell_permit::read_for(hw, today, days, &file[place..end]);
+                onward(line, Cursor { place: end + 2 })
+            }
+            Next::Answer(answer) => answer,
+        }
     }
 }

@@ -1,23 +1,15 @@
--- `cell_permit::read_with` meets its contract. 12, then 13, then 21.
+-- `cell_permit::read_with` meets its contract. 12, then what its parts give.
 -- Assumes nothing.
 use mathlib.Core.Path.{_≡_, sym, _∙_}
-use native.Mathlib.Omega.{arith}
 use borrow.Author.Needs.{needs}
-use lib.Seq.{length-take-le}
-use Rattle.bytes.specs.declared.numbers.Reading.the-variants.{Number}
 use Rattle.cell_permit.specs.declared.Shape.the-variants.{Line}
-use Rattle.cell_permit.specs.Line.{shapeOf, keyUnder}
-use Rattle.cell_permit.proofs.ReadLines.{permit-within, refused-12, line-good, refused-13, refused-21-one, refused-21-two, is-record}
+use Rattle.cell_permit.specs.Line.{shapeOf}
+use Rattle.cell_permit.proofs.ReadLines.{unchecked-within, refused-12, on-parts}
 use Rattle.cell_permit.proofs.read_with.Statement.{statement}
 use Rattle.cell_permit.proofs.read_with.Tie as tie
 
 shape : (c : tie.After-known-told) → shapeOf (c .before .before .before .before .before .args .line .now) ≡ Line (c .before .p .given .0 .0)
 shape c = sym (c .before .before .before .shape-of .ensures) ∙ c .before .p .given .1
-
-first-key : (c : tie.After-known-told2)
-    → let taken = c .before .before .before .before .before .before .before .before in
-    keyUnder (taken .before .before .before .before .before .args .words .now) (taken .before .p .given .0 .0 .block1) ≡ Number (c .before .key1 .given .0 .0)
-first-key c = sym (c .before .before .before .key-under .ensures) ∙ c .before .key1 .given .1
 
 shape-of-requires : tie.Need-shape-of-requires
 shape-of-requires c κs = search needs
@@ -31,83 +23,13 @@ enum-told c = search needs
 returns : tie.Need-returns
 returns c = refused-12 _ _ _ _ (sym (c .before .before .shape-of .ensures) ∙ c .enum-told .given .1)
 
-slice-aggregate-check-of : tie.Need-slice-aggregate-check-of
-slice-aggregate-check-of c =
-    let taken = c .before in
-    let line = taken .before .before .before .before .before .args .line .now in
-    sym (length-take-le 48 line (omega (arith, permit-within line (line-good line _ (shape taken)))))
-
-check-of-requires : tie.Need-check-of-requires
-check-of-requires c κs = search needs
+checked-requires : tie.Need-checked-requires
+checked-requires c κs = unchecked-within _ _ (shape c)
 
 returns-2 : tie.Need-returns-2
-returns-2 c =
-    let taken = c .before .before .before .before in
-    refused-13 _ _ _ _ _ (shape taken) _ (c .before .before .check-of .ensures) (c .if1 .taken)
-
-key-under-requires : tie.Need-key-under-requires
-key-under-requires c κs = search needs
-
-enum-known-key1 : tie.Need-enum-known-key1
-enum-known-key1 c = search needs
-
-enum-told-2 : tie.Need-enum-told-2
-enum-told-2 c = search needs
-
-returns-3 : tie.Need-returns-3
-returns-3 c =
-    let right = c .before .before .before in
-    let taken = right .before .before .before .before in
-    refused-21-one _ _ _ _ _ (shape taken) _ (right .before .before .check-of .ensures) (right .if1 .left)
-    (sym (c .before .before .key-under .ensures) ∙ c .enum-told2 .given .1)
-
-key-under-requires-2 : tie.Need-key-under-requires-2
-key-under-requires-2 c κs = search needs
-
-enum-known-key2 : tie.Need-enum-known-key2
-enum-known-key2 c = search needs
-
-enum-told-3 : tie.Need-enum-told-3
-enum-told-3 c = search needs
-
-returns-4 : tie.Need-returns-4
-returns-4 c =
-    let one = c .before .before .before in
-    let right = one .before .before .before .before in
-    let taken = right .before .before .before .before in
-    refused-21-two _ _ _ _ _ (shape taken) _ (right .before .before .check-of .ensures) (right .if1 .left) _ (first-key one)
-    (sym (c .before .before .key-under2 .ensures) ∙ c .enum-told3 .given .1)
-
-notice-of-requires : tie.Need-notice-of-requires
-notice-of-requires c κs = search needs
-
-returns-5 : tie.Need-returns-5
-returns-5 c =
-    let two = c .before in
-    let one = two .before .before .before .before in
-    let right = one .before .before .before .before in
-    let taken = right .before .before .before .before in
-    is-record _ _ _ _ _ (shape taken) _ (right .before .before .check-of .ensures) (right .if1 .left) _ (first-key one) _ _
-    (sym (two .before .before .before .key-under2 .ensures) ∙ two .before .key2 .given .1) (c .notice-of .ensures)
+returns-2 c = c .checked .ensures ∙ on-parts _ _ _ _ _ (shape (c .before))
 
 pub read-with-spec : {M : Type 1} → statement M
 read-with-spec =
     tie.close
-    (tie.spec
-    shape-of-requires
-    enum-known-p
-    enum-told
-    returns
-    slice-aggregate-check-of
-    check-of-requires
-    returns-2
-    key-under-requires
-    enum-known-key1
-    enum-told-2
-    returns-3
-    key-under-requires-2
-    enum-known-key2
-    enum-told-3
-    returns-4
-    notice-of-requires
-    returns-5)
+    (tie.spec shape-of-requires enum-known-p enum-told returns checked-requires returns-2)
