@@ -10,21 +10,23 @@ ghost use Rattle.forms.specs.Output.{writtenOf, lentAfter};
 ghost use Rattle.tenants.specs.Cells.{cellOf};
 ghost use Rattle.tenants.specs.Rules.{asking, issuing, checking};
 ghost use Rattle.layout.specs.Layout.{isBook, ownIn};
+ghost use Rattle.records.specs.Finding.{searchedFor};
 ghost use Rattle.asking.specs.Issuing.{lineWritten};
 ghost use Rattle.asking.specs.Asking.{editionIn, issuedFrom, checkedBy};
 use cell_permit::Cell;
 use cell_permit::Line;
 use forms::Written;
 use forms::identifiers::is_cell_name;
+use layout::Judged;
 use records::finding::Found;
 use records::finding::cell_at;
 use records::finding::find;
 use tenants::Asked;
 use user_permit::UserPermit;
 
-// The edition of a tenant's cell in an undamaged book.
-fn edition_in(book: &[u8], tenant: u32, name: u64) -> Asked
-    requires { ⌜ isBook (now book) ≡ true ⌝ }
+// The edition of a tenant's cell in an undamaged book, by what the search found.
+fn edition_in(book: &[u8], found: Found, tenant: u32, name: u64) -> Asked
+    requires { ⌜ (isBook (now book) ≡ true) × (found ≡ searchedFor (now book) tenant name) ⌝ }
     ensures { λ r. ⌜ r ≡ asking tenant name (ownIn (now (book .entry)) tenant) ⌝ }
 {
     if 15 < tenant {
@@ -33,7 +35,7 @@ fn edition_in(book: &[u8], tenant: u32, name: u64) -> Asked
     if !is_cell_name(name) {
         return Asked::Refused(103);
     }
-    let Found::At(i) = find(book, tenant, name) else {
+    let Found::At(i) = found else {
         return Asked::Refused(104);
     };
     Asked::Edition(cell_at(book, i).edition)
@@ -43,10 +45,11 @@ fn edition_in(book: &[u8], tenant: u32, name: u64) -> Asked
 pub fn ask_edition(book: &[u8], tenant: u32, name: u64) -> Asked
     ensures { λ r. ⌜ r ≡ editionIn (now (book .entry)) tenant name ⌝ }
 {
-    if !layout::is_book(book) {
+    let Judged::Records { first, past } = layout::judge(book, tenant) else {
         return Asked::Refused(101);
-    }
-    edition_in(book, tenant, name)
+    };
+    let found = find(book, first, past, name);
+    edition_in(book, found, tenant, name)
 }
 
 // Whether cell name, expiry and service level are in their ranges and alphabets.
@@ -62,9 +65,10 @@ fn are_given(name: u64, expiry: u32, level: u32) -> bool
     level <= 1
 }
 
-// The line of a tenant's cell for the ship of a user permit, as that reads.
+// The line of a tenant's cell, as the search found it, for the ship of a user permit, as that reads.
 fn issue_for(
     book: &[u8],
+    found: Found,
     tenant: u32,
     name: u64,
     expiry: u32,
@@ -73,6 +77,7 @@ fn issue_for(
     out: &mut [u8],
 ) -> Written
     requires { ⌜ (isBook (now book) ≡ true) × (tenant ≤ 15) ⌝ }
+    requires { ⌜ found ≡ searchedFor (now book) tenant name ⌝ }
     ensures { λ r. ⌜ (r ≡ writtenOf (lineWritten ship (cellOf name (ownIn (now (book .entry)) tenant .cells))
         (ownIn (now (book .entry)) tenant .setting) expiry level (length (now (out .entry)))))
         × (now (out .exit) ≡ lentAfter (lineWritten ship (cellOf name (ownIn (now (book .entry)) tenant .cells))
@@ -82,7 +87,7 @@ fn issue_for(
         UserPermit::Ship { hw_id, m_id: _ } => hw_id,
         UserPermit::Refused(n) => return Written::Refused(n),
     };
-    let Found::At(i) = find(book, tenant, name) else {
+    let Found::At(i) = found else {
         return Written::Refused(104);
     };
     let held = cell_at(book, i);
@@ -98,9 +103,10 @@ fn issue_for(
     writing_line::write_line(hw, cell, out)
 }
 
-// A line issued from an undamaged book.
+// A line issued from an undamaged book, by what the search found there.
 fn issue_from(
     book: &[u8],
+    found: Found,
     register: &[u8],
     tenant: u32,
     name: u64,
@@ -109,7 +115,7 @@ fn issue_from(
     permit: &[u8],
     out: &mut [u8],
 ) -> Written
-    requires { ⌜ isBook (now book) ≡ true ⌝ }
+    requires { ⌜ (isBook (now book) ≡ true) × (found ≡ searchedFor (now book) tenant name) ⌝ }
     ensures { λ r. ⌜ (r ≡ writtenOf (issuing tenant (now (register .entry)) name expiry level
         (now (permit .entry)) (length (now (out .entry))) (ownIn (now (book .entry)) tenant)))
         × (now (out .exit) ≡ lentAfter (issuing tenant (now (register .entry)) name expiry level
@@ -127,8 +133,8 @@ fn issue_from(
     if !are_given(name, expiry, level) {
         return Written::Refused(103);
     }
-    let ship = user_permit::read_user_permit(register, permit);
-    issue_for(book, tenant, name, expiry, level, ship, out)
+    let ship = user_permit::read_by(register, permit);
+    issue_for(book, found, tenant, name, expiry, level, ship, out)
 }
 
 // Issues a line: that of a cell which the tenant holds, for the ship of a user permit, at the output's start.
@@ -147,10 +153,21 @@ pub fn issue(
         × (now (out .exit) ≡ lentAfter (issuedFrom (now (book .entry)) (now (register .entry)) tenant name expiry level
         (now (permit .entry)) (length (now (out .entry)))) (now (out .entry))) ⌝ }
 {
-    if !layout::is_book(book) {
+    let Judged::Records { first, past } = layout::judge(book, tenant) else {
         return Written::Refused(101);
-    }
-    issue_from(book, register, tenant, name, expiry, level, permit, out)
+    };
+    let found = find(book, first, past, name);
+    issue_from(
+        book,
+        found,
+        register,
+        tenant,
+        name,
+        expiry,
+        level,
+        permit,
+        out,
+    )
 }
 
 // A line checked with a tenant's own warning days, as an undamaged book has them.

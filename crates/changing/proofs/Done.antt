@@ -11,7 +11,7 @@ use Rattle.forms.specs.Identifiers.{isCellName}
 use Rattle.tenants.specs.declared.Held.{Held}
 use Rattle.tenants.specs.declared.Setting.{Setting}
 use Rattle.tenants.specs.Rules.{enters, withdraws, sets, isHeld}
-use Rattle.tenants.specs.Together.{inBook, fullName, ownOf}
+use Rattle.tenants.specs.Together.{inBook, ownOf}
 use Rattle.tenants.proofs.Ranges.{tenant-is, days-below, name-below, held-below}
 use Rattle.tenants.proofs.Room.{has-place}
 use Rattle.layout.specs.Layout.{settingAt, settingPlace, recordCount, bookOf, isBook, ownIn}
@@ -19,9 +19,8 @@ use Rattle.layout.proofs.Indexed.{book-count, own-setting}
 use Rattle.layout.proofs.Frame.{book-frame}
 use Rattle.layout.proofs.Promises.{good}
 use Rattle.records.specs.declared.finding.Found.the-variants.{At, Absent}
-use Rattle.records.specs.Finding.{searched, heldIn}
+use Rattle.records.specs.Finding.{searchedFor}
 use Rattle.records.specs.Moves.{recordPut, recordInserted, recordRemoved}
-use Rattle.records.proofs.Searching.{counts-held}
 use Rattle.records.proofs.OwnFound.{finds-held, finds-none}
 use Rattle.records.proofs.Changes.{replaces, inserts, removes}
 use Rattle.changing.specs.Changing.{entry, withdrawal, newDays}
@@ -48,37 +47,37 @@ module _ (s : List ℕ) (undamaged : isBook s ≡ true) (t : ℕ) (tenant : t �
   room-for room = omega (arith, book-count s, has-place (bookOf s) (good s undamaged) t (omega arith) room)
 
   module _ (cell : Held) (fit : isHeld cell ≡ true) (i : ℕ) where
-    pub entered-held : searched s (fullName t (cell .name)) ≡ At i → Does t s (entry s t cell) 0 (recordPut i (inBook t cell) s)
+    pub entered-held : searchedFor s t (cell .name) ≡ At i → Does t s (entry s t cell) 0 (recordPut i (inBook t cell) s)
     entered-held found =
         does-same t s _ (entry s t cell) (enters cell) 0
         (entry-held s t cell undamaged (tenant-is t tenant) fit _ (finds-held s t (cell .name) i undamaged (held-below cell fit) found))
-        (refl, replaces s t cell i undamaged found)
+        (refl, replaces s t cell i undamaged (held-below cell fit) found)
 
-    module _ (found : searched s (fullName t (cell .name)) ≡ Absent i) where
-      pub entered-new : heldIn s t < settingAt s t .quota → Does t s (entry s t cell) 0 (recordInserted i (inBook t cell) s)
+    module _ (found : searchedFor s t (cell .name) ≡ Absent i) where
+      pub entered-new : length (ownIn s t .cells) < settingAt s t .quota → Does t s (entry s t cell) 0 (recordInserted i (inBook t cell) s)
       entered-new below =
-          let room : length (ownIn s t .cells) < ownIn s t .setting .quota = omega (arith, quota-is, counts-held s t undamaged) in
+          let room : length (ownIn s t .cells) < ownIn s t .setting .quota = omega (arith, quota-is) in
           does-same t s _ (entry s t cell) (enters cell) 0
           (entry-roomy s t cell undamaged (tenant-is t tenant) fit room)
-          (refl, inserts s t cell i undamaged (room-for room) found)
+          (refl, inserts s t cell i undamaged (held-below cell fit) (room-for room) found)
 
-      pub quota-used : settingAt s t .quota ≤ heldIn s t → Does t s (entry s t cell) 105 s
+      pub quota-used : settingAt s t .quota ≤ length (ownIn s t .cells) → Does t s (entry s t cell) 105 s
       quota-used full =
           refused t s (entry s t cell) 105
           (entry-full s t cell undamaged (tenant-is t tenant) fit (finds-none s t (cell .name) i undamaged (held-below cell fit) found)
-          (omega (arith, quota-is, counts-held s t undamaged)))
+          (omega (arith, quota-is)))
 
   module _ (name : ℕ) (fit : isCellName name ≡ true) (i : ℕ) where
-    pub not-held : searched s (fullName t name) ≡ Absent i → Does t s (withdrawal s t name) 104 s
+    pub not-held : searchedFor s t name ≡ Absent i → Does t s (withdrawal s t name) 104 s
     not-held found =
         refused t s (withdrawal s t name) 104
         (withdrawal-absent s t name undamaged (tenant-is t tenant) fit (finds-none s t name i undamaged (name-below name fit) found))
 
-    pub withdrawn-held : searched s (fullName t name) ≡ At i → Does t s (withdrawal s t name) 0 (recordRemoved i s)
+    pub withdrawn-held : searchedFor s t name ≡ At i → Does t s (withdrawal s t name) 0 (recordRemoved i s)
     withdrawn-held found =
         does-same t s _ (withdrawal s t name) (withdraws name) 0
         (withdrawal-held s t name undamaged (tenant-is t tenant) fit _ (finds-held s t name i undamaged (name-below name fit) found))
-        (refl, removes s t name i undamaged found)
+        (refl, removes s t name i undamaged (name-below name fit) found)
 
   pub days-set : (days : ℕ) → isDays days ≡ true → Does t s (newDays s t days) 0 (set s (settingPlace t + 2) days)
   days-set days fit =

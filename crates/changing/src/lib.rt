@@ -2,12 +2,13 @@
 ghost use mathlib.Core.Path.{_≡_};
 ghost use mathlib.Core.Bool.{true};
 ghost use Prim.Native.Nat.{_≤_};
+ghost use lib.ListN.{length};
 ghost use Rattle.tenants.specs.Rules.{isHeld, changeNumber};
-ghost use Rattle.tenants.specs.Together.{fullName};
-ghost use Rattle.layout.specs.Layout.{isBook};
-ghost use Rattle.records.specs.Finding.{searched};
+ghost use Rattle.layout.specs.Layout.{isBook, ownIn};
+ghost use Rattle.records.specs.Finding.{searchedFor};
 ghost use Rattle.records.specs.declared.finding.Found.the-variants.{Absent};
 ghost use Rattle.changing.specs.Changing.{entry, withdrawal, newDays, bytesAfter};
+use layout::Judged;
 use layout::SETTING_SIZE;
 use layout::SETTINGS_PLACE;
 use records::finding::Found;
@@ -32,15 +33,15 @@ fn is_held(cell: Held) -> bool
     cell.key2 <= 0xFF_FFFF_FFFF
 }
 
-// Enters a cell with a new name, which would go to place i: its tenant's own quota decides.
-fn enter_new(book: &mut [u8], i: u32, tenant: u32, cell: Held) -> u32
+// Enters a cell with a new name, which would go to place i: the quota of its tenant, which holds so many cells, decides.
+fn enter_new(book: &mut [u8], i: u32, held: u32, tenant: u32, cell: Held) -> u32
     requires { ⌜ isBook (now book) ≡ true ⌝ }
     requires { ⌜ (tenant ≤ 15) × (isHeld cell ≡ true) ⌝ }
-    requires { ⌜ searched (now book) (fullName tenant (cell .name)) ≡ Absent i ⌝ }
+    requires { ⌜ searchedFor (now book) tenant (cell .name) ≡ Absent i ⌝ }
+    requires { ⌜ held ≡ length (ownIn (now book) tenant .cells) ⌝ }
     ensures { λ r. ⌜ (r ≡ changeNumber (entry (now (book .entry)) tenant cell))
         × (now (book .exit) ≡ bytesAfter tenant (entry (now (book .entry)) tenant cell) (now (book .entry))) ⌝ }
 {
-    let held = records::finding::held_by(book, tenant);
     let quota = layout::setting_of(book, tenant).quota;
     if held < quota {
         records::moving::insert_record(book, i, tenant, cell);
@@ -54,21 +55,21 @@ pub fn enter(book: &mut [u8], tenant: u32, cell: Held) -> u32
     ensures { λ r. ⌜ (r ≡ changeNumber (entry (now (book .entry)) tenant cell))
         × (now (book .exit) ≡ bytesAfter tenant (entry (now (book .entry)) tenant cell) (now (book .entry))) ⌝ }
 {
-    if !layout::is_book(book) {
+    let Judged::Records { first, past } = layout::judge(book, tenant) else {
         return 101;
-    }
+    };
     if 15 < tenant {
         return 102;
     }
     if !is_held(cell) {
         return 103;
     }
-    match records::finding::find(book, tenant, cell.name) {
+    match records::finding::find(book, first, past, cell.name) {
         Found::At(i) => {
             records::moving::put_record(book, i, tenant, cell);
             0
         }
-        Found::Absent(i) => enter_new(book, i, tenant, cell),
+        Found::Absent(i) => enter_new(book, i, past - first, tenant, cell),
     }
 }
 
@@ -77,16 +78,16 @@ pub fn withdraw(book: &mut [u8], tenant: u32, name: u64) -> u32
     ensures { λ r. ⌜ (r ≡ changeNumber (withdrawal (now (book .entry)) tenant name))
         × (now (book .exit) ≡ bytesAfter tenant (withdrawal (now (book .entry)) tenant name) (now (book .entry))) ⌝ }
 {
-    if !layout::is_book(book) {
+    let Judged::Records { first, past } = layout::judge(book, tenant) else {
         return 101;
-    }
+    };
     if 15 < tenant {
         return 102;
     }
     if !forms::identifiers::is_cell_name(name) {
         return 103;
     }
-    let Found::At(i) = records::finding::find(book, tenant, name) else {
+    let Found::At(i) = records::finding::find(book, first, past, name) else {
         return 104;
     };
     records::moving::remove_record(book, i);

@@ -5,20 +5,20 @@ use mathlib.Core.Bool.{true}
 use mathlib.Core.List.{List, [], _∷_}
 use Prim.Native.Nat.{ℕ, zero, suc, _+_, _-_, _*_, _/_, _≤_, _<_}
 use native.Mathlib.Omega.{arith}
-use borrow.Author.Tests.{leb-true, leb-false, lt-ltb, le-ltb, ltb-true, ltb-false, eqb-true, eqb-false, ne-eqb}
+use borrow.Author.Tests.{leb-true, leb-false, lt-ltb, ltb-true, ltb-false, eqb-true, eqb-false}
 use lib.Dec.{leb, ltb, eqb}
 use lib.ListN.{length}
 use Rattle.bytes.specs.Numbers.{Below}
 use Rattle.bytes.specs.Places.{numberAt}
-use Rattle.bytes.proofs.Every.{and-first, either}
+use Rattle.bytes.proofs.Every.{either}
 use Rattle.tenants.specs.Cells.{startsAbove}
-use Rattle.tenants.specs.Rules.{isTenant, isHeld}
-use Rattle.tenants.specs.Together.{cellIn, BookRecord, fullName, tenantOf, cellsOf, isRecord, areRecords}
+use Rattle.tenants.specs.Together.{BookRecord, fullName, cellsOf, areRecords}
 use Rattle.tenants.proofs.OwnCells.{cells-not}
 use Rattle.layout.specs.Layout.{recordSize, recordPlace, usedLength, settingPlace}
 use Rattle.layout.specs.Starts.{startOf}
 use Rattle.layout.specs.Judging.{partFrom, partsFrom}
 use Rattle.layout.specs.declared.Part.the-variants.{Ends}
+use Rattle.layout.proofs.StartPlaces.{start-none, start-next}
 use Rattle.layout.proofs.PartsSteps.{wrong-ends, ends-same, ends-or-wrong, parts-wrong, parts-long, parts-more}
 use Rattle.layout.proofs.OnePart.{starts-lower, right-parts, first-above, from, from-end, heldFrom, PartSays, part-says, part-goes}
 
@@ -42,39 +42,6 @@ none-below t (r ∷ records) right above =
     let high : fullName (suc t) 0 < r .name = ltb-true _ (r .name) (unfold startsAbove in above) in
     ap length (cells-not t r records (λ e. omega arith))
     ∙ none-below t records (facts .rest) (starts-lower (fullName (suc t) 0) (r .name) records (omega arith) (facts .rise))
-
--- the records before a tenant's and its own are those before the next one's
-start-next : (t : ℕ) (records : List BookRecord) → startOf (suc t) records ≡ startOf t records + length (cellsOf t records)
-unfolding startOf cellsOf
-start-next t [] = refl
-start-next t (r ∷ records) =
-    either (ltb (tenantOf r) t)
-    (λ low. let h : tenantOf r < t = ltb-true _ _ low in
-    rw (lt-ltb (tenantOf r) (suc t) (omega arith), low, ne-eqb (tenantOf r) t (λ e. omega arith)) (omega (arith, start-next t records)))
-    (λ not.
-    either (eqb (tenantOf r) t)
-    (λ same. let e : tenantOf r ≡ t = eqb-true _ _ same in
-    rw (lt-ltb (tenantOf r) (suc t) (omega arith), not, same) (omega (arith, start-next t records)))
-    (λ other. let apart : tenantOf r ≡ t → ⊥ = eqb-false _ _ other in
-    let high : t ≤ tenantOf r = omega (arith, ltb-false (tenantOf r) t not) in
-    rw (le-ltb (tenantOf r) (suc t) (omega arith), not, other) (omega (arith, start-next t records))))
-
-start-none : (records : List BookRecord) → startOf 0 records ≡ 0
-unfolding startOf
-start-none [] = refl
-start-none (r ∷ records) = rw (le-ltb (tenantOf r) 0 (omega arith)) (omega (arith, start-none records))
-
-tenant-low : (r : BookRecord) → isRecord r ≡ true → tenantOf r ≤ 15
-unfolding isRecord isTenant
-tenant-low r right = leb-true (tenantOf r) 15 (and-first (leb (tenantOf r) 15) (isHeld (cellIn r)) right)
-
--- all records are of tenants below 16
-pub start-all : (t : ℕ) (records : List BookRecord) → 16 ≤ t → areRecords records ≡ true → startOf t records ≡ length records
-unfolding startOf
-start-all t [] high right = refl
-start-all t (r ∷ records) high right =
-    let facts = right-parts r records right in
-    rw (lt-ltb (tenantOf r) t (omega (arith, tenant-low r (facts .it)))) (omega (arith, start-all t records high (facts .rest)))
 
 module _ (s : List ℕ) (below : Below 256 s) (n : ℕ) (within : usedLength n ≤ length s) where
   abbrev used : ℕ

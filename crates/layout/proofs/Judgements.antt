@@ -12,7 +12,7 @@ use Rattle.bytes.specs.Numbers.{Below}
 use Rattle.bytes.proofs.Every.{either}
 use Rattle.tenants.specs.Together.{BookRecord, areRecords}
 use Rattle.layout.specs.Layout.{recordsPlace, recordSize, usedLength, recordPlace, recordCount, bookOf, isBook}
-use Rattle.layout.specs.Starts.{startOf, firstIn, judged}
+use Rattle.layout.specs.Starts.{startOf, firstIn, pastIn, judged}
 use Rattle.layout.specs.Judging.{frameTest, onward, partsFrom, upTo16}
 use Rattle.layout.specs.declared.Judged.{Judged}
 use Rattle.layout.specs.declared.Judged.the-variants.{Records, Damaged}
@@ -20,7 +20,7 @@ use Rattle.layout.specs.declared.Part.{Part}
 use Rattle.layout.specs.declared.Part.the-variants.{Ends, Wrong}
 use Rattle.layout.proofs.Indexed.{book-count}
 use Rattle.layout.proofs.PartsSteps.{wrong-ends, ends-same, parts-join}
-use Rattle.layout.proofs.AllParts.{start-all}
+use Rattle.layout.proofs.StartPlaces.{start-all}
 use Rattle.layout.proofs.Tested.{Framed, framed-test, book-framed, book-right, book-parts, tested-book}
 
 -- where the numbers of tenants end
@@ -154,10 +154,14 @@ module _ (s : List ℕ) (below : Below 256 s) (t : ℕ) where
 no-records : {i j : ℕ} → _≡_ {A = Judged} Damaged (Records i j) → ⊥
 no-records e = let z : _≡_ {A = ℕ} 0 1 = cc in omega arith
 
+records-same : {a b i j : ℕ} → _≡_ {A = Judged} (Records a b) (Records i j) → (i ≡ a) × (j ≡ b)
+records-same e = (cc, cc)
+
 module _ (s : List ℕ) (t : ℕ) where
-  pub judged-book : (i j : ℕ) → judged s t ≡ Records i j → isBook s ≡ true
+  pub judged-says : (i j : ℕ) → judged s t ≡ Records i j → (isBook s ≡ true) × ((i ≡ firstIn s t) × (j ≡ pastIn s t))
   unfolding judged
-  judged-book i j so = either (isBook s) (λ undamaged. undamaged) (λ not. absurd (no-records (rw not at so)))
+  judged-says i j so =
+      either (isBook s) (λ undamaged. (undamaged, records-same (rw undamaged at so))) (λ not. absurd (no-records (rw not at so)))
 
   pub judged-damaged : judged s t ≡ Damaged → isBook s ≡ false
   unfolding judged

@@ -17,6 +17,7 @@ pub mod RecordTests
 pub mod PartSteps
 pub mod PartsSteps
 pub mod OnePart
+pub mod StartPlaces
 pub mod AllParts
 pub mod QuotaTests
 pub mod Tested

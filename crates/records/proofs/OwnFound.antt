@@ -1,6 +1,6 @@
 -- What the search tells of an undamaged book's records and of a tenant's own cells.
 -- Assumes nothing.
-use mathlib.Core.Path.{_≡_, sym, ap, _∙_}
+use mathlib.Core.Path.{_≡_, sym, ap, ap₂, _∙_}
 use mathlib.Core.Bool.{true}
 use mathlib.Core.List.{List}
 use mathlib.Core.Option.{none, some}
@@ -14,8 +14,9 @@ use Rattle.tenants.proofs.OwnCells.{cell-found, cell-absent}
 use Rattle.layout.specs.Layout.{recordAt, recordCount, bookOf, isBook, ownIn}
 use Rattle.layout.proofs.Indexed.{book-count, book-record}
 use Rattle.layout.proofs.Promises.{good}
+use Rattle.layout.proofs.Judgements.{judged-says}
 use Rattle.records.specs.declared.finding.Found.the-variants.{At, Absent}
-use Rattle.records.specs.Finding.{searchedFor, FindsHeld, FindsNone}
+use Rattle.records.specs.Finding.{searched, searchedFor, SearchesOwn, FindsHeld, FindsNone}
 use Rattle.records.proofs.Found.{Here, Gone, found-at, found-absent}
 use Rattle.records.proofs.Searching.{search-says}
 
@@ -55,6 +56,11 @@ module _ (s : List ℕ) (undamaged : isBook s ≡ true) (t name i : ℕ) (small 
     no-cell : cellOf name (ownIn s t .cells) ≡ none
     unfolding ownOf
     no-cell = cell-absent t name small (bookOf s .records) (gone .absent)
+
+pub searches-own : SearchesOwn
+searches-own s t name first past so =
+    let places = judged-says s t first past so .1 in
+    ap₂ (λ (i j : ℕ). searched s i j name) (places .0) (places .1)
 
 pub finds-held : FindsHeld
 finds-held s t name i undamaged small found = cell-there s undamaged t name i small found

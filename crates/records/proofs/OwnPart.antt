@@ -5,7 +5,7 @@ use mathlib.Core.Bool.{true}
 use mathlib.Core.List.{List, [], _∷_, _++_, append-assoc}
 use Prim.Native.Nat.{ℕ, suc, _+_, _/_, _%_, _^_, _≤_, _<_}
 use native.Mathlib.Omega.{arith}
-use borrow.Author.Tests.{ltb-true, ltb-false, lt-ltb, le-ltb}
+use borrow.Author.Tests.{ltb-true, ltb-false}
 use lib.Dec.{ltb}
 use lib.ListN.{length, getD, take, drop, length-append}
 use lib.Seq.{split-at, length-take-le}
@@ -13,37 +13,22 @@ use Rattle.bytes.specs.Numbers.{digits, bytesOf}
 use Rattle.bytes.specs.Places.{numberAt}
 use Rattle.bytes.proofs.Every.{either}
 use Rattle.bytes.proofs.Places.{number-written}
-use Rattle.tenants.specs.Together.{BookRecord, names, fullName, tenantOf, nameOf, cellsOf, ownOf}
-use Rattle.tenants.proofs.Ordered.{Above, Sorted, Stands, before, same, behind, stands}
-use Rattle.tenants.proofs.OwnCells.{cells-mine, cells-not}
+use Rattle.tenants.specs.Together.{BookRecord, names, fullName, tenantOf, nameOf, ownOf}
+use Rattle.tenants.proofs.Ordered.{Above, Sorted}
 use Rattle.layout.specs.Layout.{zeros, recordBytes, recordPlace, recordAt, recordCount, bookOf, isBook}
 use Rattle.layout.specs.Starts.{startOf, firstIn, pastIn}
 use Rattle.layout.proofs.Indexed.{book-count}
 use Rattle.layout.proofs.Promises.{good, written-so}
+use Rattle.layout.proofs.StartPlaces.{start-next}
 use Rattle.layout.proofs.Splits.{bytesBefore, bytesFrom, before-size, cut-bytes}
 use Rattle.records.specs.Finding.{nameAt, CountsHeld}
 use Rattle.records.proofs.Found.{placeOf, place-here, place-later}
 use Rattle.records.proofs.Rewritten.{from-first}
 use Rattle.records.proofs.Halving.{before-place, from-place, place-within, place-rises}
 
--- the records of the tenants up to t are those of the tenants below t, and t's own
-count-own : (t : ℕ) (records : List BookRecord) → startOf (suc t) records ≡ startOf t records + length (cellsOf t records)
-unfolding startOf cellsOf
-count-own t [] = refl
-count-own t (r ∷ records) = go (stands (tenantOf r) t) (count-own t records)
-  where
-    go : Stands (tenantOf r) t → startOf (suc t) records ≡ startOf t records + length (cellsOf t records)
-        → startOf (suc t) (r ∷ records) ≡ startOf t (r ∷ records) + length (cellsOf t (r ∷ records))
-    go (before m) ih =
-        rw (lt-ltb (tenantOf r) (suc t) (omega arith), lt-ltb (tenantOf r) t m, cells-not t r records (λ e. omega arith)) (omega arith)
-    go (same m) ih =
-        rw (lt-ltb (tenantOf r) (suc t) (omega arith), le-ltb (tenantOf r) t (omega arith), cells-mine t r records m) (omega arith)
-    go (behind m) ih =
-        rw (le-ltb (tenantOf r) (suc t) (omega arith), le-ltb (tenantOf r) t (omega arith), cells-not t r records (λ e. omega arith)) (omega arith)
-
 pub counts-held : CountsHeld
 unfolding ownOf
-counts-held s t = count-own t (bookOf s .records)
+counts-held s t = start-next t (bookOf s .records)
 
 none-below : (full k : ℕ) (records : List BookRecord) → full ≤ k → Above k records → placeOf full records ≡ 0
 unfolding placeOf

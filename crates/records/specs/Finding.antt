@@ -11,7 +11,8 @@ use Rattle.bytes.specs.Places.{numberAt}
 use Rattle.tenants.specs.Cells.{cellOf}
 use Rattle.tenants.specs.Together.{names, cellIn}
 use Rattle.layout.specs.Layout.{recordPlace, recordAt, isBook, ownIn}
-use Rattle.layout.specs.Starts.{firstIn, pastIn}
+use Rattle.layout.specs.Starts.{firstIn, pastIn, judged}
+use Rattle.layout.specs.declared.Judged.the-variants.{Records}
 use Rattle.records.specs.declared.finding.Found.{Found}
 use Rattle.records.specs.declared.finding.Found.the-variants.{At, Absent}
 
@@ -44,6 +45,10 @@ searched s first past name = foundAt s past name (placeIn s first past name)
 -- and among those of tenant t
 abbrev pub searchedFor : List ℕ → ℕ → ℕ → Found
 searchedFor s t name = searched s (firstIn s t) (pastIn s t) name
+
+-- which is where judging the book for the tenant says that they stand
+abbrev pub SearchesOwn : Type 0
+SearchesOwn = (s : List ℕ) (t name first past : ℕ) → judged s t ≡ Records first past → searched s first past name ≡ searchedFor s t name
 
 -- of an undamaged book: the record that is found is the tenant's cell of that name
 abbrev pub FindsHeld : Type 0

@@ -1,28 +1,46 @@
 -- `asking::ask_edition` meets its contract.
 -- Assumes nothing.
 use mathlib.Core.Path.{_≡_, sym, _∙_}
-use mathlib.Core.Bool.{true}
 use borrow.Author.Needs.{needs}
-use borrow.Author.Tests.{not-true, not-false}
-use Rattle.layout.specs.Layout.{isBook}
+use Rattle.layout.specs.Starts.{judged}
+use Rattle.layout.specs.declared.Judged.the-variants.{Records}
+use Rattle.layout.proofs.Judgements.{judged-says, judged-damaged}
+use Rattle.records.proofs.OwnFound.{searches-own}
 use Rattle.asking.proofs.AnswerRules.{edition-damaged, edition-ruled}
 use Rattle.asking.proofs.ask_edition.Statement.{statement}
 use Rattle.asking.proofs.ask_edition.Tie as tie
 
-is-book-requires : tie.Need-is-book-requires
-is-book-requires c κs = search needs
+-- what is known once the book is found undamaged
+module _ (e : tie.After-known-told) where
+  abbrev start : tie.Start
+  start = e .before .before .before .before .before
 
-undamaged : (c : tie.Else1) → isBook (c .before .before .before .args .book .now) ≡ true
-undamaged c = sym (c .before .is-book .ensures) ∙ not-false _ (c .if1 .left)
+  judged-so : judged (start .args .book .now) (start .args .tenant) ≡ Records (e .before .first .given .0 .0) (e .before .first .given .0 .1 .0)
+  judged-so = sym (e .before .before .before .judge .ensures) ∙ e .before .first .given .1
+
+judge-requires : tie.Need-judge-requires
+judge-requires c κs = search needs
+
+enum-known-first : tie.Need-enum-known-first
+enum-known-first c = search needs
+
+enum-told : tie.Need-enum-told
+enum-told c = search needs
 
 returns : tie.Need-returns
-returns c = sym (edition-damaged _ _ _ (sym (c .before .is-book .ensures) ∙ not-true _ (c .if1 .taken)))
+returns c = sym (edition-damaged _ _ _ (judged-damaged _ _ (sym (c .before .before .judge .ensures) ∙ c .enum-told .given .1)))
+
+find-requires : tie.Need-find-requires
+find-requires c κs = search needs
 
 edition-in-requires : tie.Need-edition-in-requires
-edition-in-requires c κs = undamaged c
+edition-in-requires c κs =
+    let so = judged-so (c .before) in
+    (judged-says _ _ _ _ so .0, c .find .ensures ∙ searches-own _ _ _ _ _ so)
 
 returns-2 : tie.Need-returns-2
-returns-2 c = c .edition-in .ensures ∙ sym (edition-ruled _ _ _ (undamaged (c .before)))
+returns-2 c = c .edition-in .ensures ∙ sym (edition-ruled _ _ _ (judged-says _ _ _ _ (judged-so (c .before .before)) .0))
 
 pub ask-edition-spec : {M : Type 1} → statement M
-ask-edition-spec = tie.close (tie.spec is-book-requires returns edition-in-requires returns-2)
+ask-edition-spec =
+    tie.close (tie.spec judge-requires enum-known-first enum-told returns find-requires edition-in-requires returns-2)

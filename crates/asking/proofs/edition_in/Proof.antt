@@ -29,31 +29,31 @@ returns-2 c =
     sym
     (asking-unfit _ _ _ (tenant-is _ (c .before .before .if1 .left)) (sym (c .before .is-cell-name .ensures) ∙ not-true _ (c .if2 .taken)))
 
--- after the search
-module _ (f : tie.After-find) where
+-- where the tenant is one, and the name is fit
+module _ (f : tie.Else2) where
+  abbrev start : tie.Start
+  start = f .before .before .before .before
+
   abbrev s : List ℕ
-  s = f .before .before .before .before .before .args .book .now
+  s = start .args .book .now
 
   abbrev t : ℕ
-  t = f .before .before .before .before .before .args .tenant
+  t = start .args .tenant
 
   abbrev name : ℕ
-  name = f .before .before .before .before .before .args .name
+  name = start .args .name
 
   small : name < names
   small = search needs
 
   tenant : isTenant t ≡ true
-  tenant = tenant-is t (f .before .before .before .if1 .left)
+  tenant = tenant-is t (f .before .before .if1 .left)
 
   fit : isCellName name ≡ true
-  fit = sym (f .before .before .is-cell-name .ensures) ∙ not-false _ (f .before .if2 .left)
+  fit = sym (f .before .is-cell-name .ensures) ∙ not-false _ (f .if2 .left)
 
-find-requires : tie.Need-find-requires
-find-requires c κs = search needs
-
-enum-known-i : tie.Need-enum-known-i
-enum-known-i c = search needs
+enum-known-found : tie.Need-enum-known-found
+enum-known-found c = search needs
 
 enum-told : tie.Need-enum-told
 enum-told c = search needs
@@ -61,10 +61,9 @@ enum-told c = search needs
 returns-3 : tie.Need-returns-3
 returns-3 c =
     let f = c .before .before in
-    let start = f .before .before .before .before .before in
     sym
     (asking-absent (t f) (name f) (ownIn (s f) (t f)) (tenant f) (fit f)
-    (finds-none (s f) (t f) (name f) _ (start .pre) (small f) (sym (f .find .ensures) ∙ c .enum-told .given .1)))
+    (finds-none (s f) (t f) (name f) _ (start f .pre .0) (small f) (sym (start f .pre .1) ∙ c .enum-told .given .1)))
 
 cell-at-requires : tie.Need-cell-at-requires
 cell-at-requires c κs = search needs
@@ -72,11 +71,10 @@ cell-at-requires c κs = search needs
 returns-4 : tie.Need-returns-4
 returns-4 c =
     let f = c .before .before .before .before in
-    let start = f .before .before .before .before .before in
     ap (λ (cell : Held). Edition (cell .edition)) (c .cell-at .ensures)
     ∙ sym
     (asking-held (t f) (name f) (ownIn (s f) (t f)) (tenant f) (fit f) _
-    (finds-held (s f) (t f) (name f) _ (start .pre) (small f) (sym (f .find .ensures) ∙ c .before .before .i .given .1)))
+    (finds-held (s f) (t f) (name f) _ (start f .pre .0) (small f) (sym (start f .pre .1) ∙ c .before .before .found .given .1)))
 
 pub edition-in-spec : {M : Type 1} → statement M
 edition-in-spec =
@@ -85,8 +83,7 @@ edition-in-spec =
     returns
     is-cell-name-requires
     returns-2
-    find-requires
-    enum-known-i
+    enum-known-found
     enum-told
     returns-3
     cell-at-requires

@@ -26,25 +26,25 @@ enum-known-ship-2 c = search needs
 returns : tie.Need-returns
 returns c = refused _ _ _ (line-refused _ _ _ _ _ _ _ (c .before .ship2 .given .1))
 
-find-requires : tie.Need-find-requires
-find-requires c κs = search needs
-
-enum-known-i : tie.Need-enum-known-i
-enum-known-i c = search needs
+enum-known-found : tie.Need-enum-known-found
+enum-known-found c = search needs
 
 enum-told : tie.Need-enum-told
 enum-told c = search needs
 
--- after the search
-module _ (f : tie.After-find) where
+-- where the ship is known
+module _ (f : tie.After-known-told) where
+  abbrev start : tie.Start
+  start = f .before .before .before .before .before
+
   abbrev s : List ℕ
-  s = f .before .before .before .before .before .before .args .book .now
+  s = start .args .book .now
 
   abbrev t : ℕ
-  t = f .before .before .before .before .before .before .args .tenant
+  t = start .args .tenant
 
   abbrev name : ℕ
-  name = f .before .before .before .before .before .before .args .name
+  name = start .args .name
 
   small : name < names
   small = search needs
@@ -52,10 +52,9 @@ module _ (f : tie.After-find) where
 returns-2 : tie.Need-returns-2
 returns-2 c =
     let f = c .before .before in
-    let start = f .before .before .before .before .before .before in
     refused _ 104 _
-    (line-absent _ _ _ _ _ _ _ _ (f .before .before .ship .given .1)
-    (finds-none (s f) (t f) (name f) _ (start .pre .0) (small f) (sym (f .find .ensures) ∙ c .enum-told .given .1)))
+    (line-absent _ _ _ _ _ _ _ _ (f .before .ship .given .1)
+    (finds-none (s f) (t f) (name f) _ (start f .pre .0 .0) (small f) (sym (start f .pre .1) ∙ c .enum-told .given .1)))
 
 cell-at-requires : tie.Need-cell-at-requires
 cell-at-requires c κs = search needs
@@ -75,13 +74,12 @@ returns-3 c =
     let set = wrote .before .before in
     let held = set .before in
     let f = held .before .before .before .before in
-    let start = f .before .before .before .before .before .before in
-    let args = start .args in
-    let hw = f .before .before .ship .given .0 .0 in
+    let args = start f .args in
+    let hw = f .before .ship .given .0 .0 in
     answered-same _ _ _ _ _
-    (line-held (args .expiry) (args .level) (length (args .out .now)) _ _ _ _ _ (f .before .before .ship .given .1) _ _
-    (finds-held (s f) (t f) (name f) _ (start .pre .0) (small f) (sym (f .find .ensures) ∙ held .before .before .i .given .1))
-    (own-setting (s f) (t f) (start .pre .1))
+    (line-held (args .expiry) (args .level) (length (args .out .now)) _ _ _ _ _ (f .before .ship .given .1) _ _
+    (finds-held (s f) (t f) (name f) _ (start f .pre .0 .0) (small f) (sym (start f .pre .1) ∙ held .before .before .found .given .1))
+    (own-setting (s f) (t f) (start f .pre .0 .1))
     ∙ sym (ap₂ (λ (own : Setting) (cell : Held). writtenLine hw (lineCell own cell (args .expiry) (args .level)) (length (args .out .now)))
     (set .setting-of .ensures) (held .cell-at .ensures)))
     (wrote .write-line .ensures)
@@ -93,8 +91,7 @@ issue-for-spec =
     enum-known-ship
     enum-known-ship-2
     returns
-    find-requires
-    enum-known-i
+    enum-known-found
     enum-told
     returns-2
     cell-at-requires

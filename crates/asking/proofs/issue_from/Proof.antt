@@ -12,6 +12,7 @@ use Rattle.forms.specs.Identifiers.{isCellName}
 use Rattle.forms.proofs.Outputs.{refused}
 use Rattle.user_permit.specs.Register.{isRegister}
 use Rattle.user_permit.specs.declared.UserPermit.{UserPermit}
+use Rattle.user_permit.proofs.UserPermits.{read-undamaged}
 use Rattle.tenants.specs.Cells.{cellOf}
 use Rattle.tenants.proofs.Ranges.{tenant-is, tenant-not}
 use Rattle.layout.specs.Layout.{ownIn}
@@ -48,8 +49,8 @@ returns-4 c =
     (issuing-unfit _ _ _ _ _ _ _ _ (registered (long .before .before)) (tenant-is _ (long .before .if2 .left)) (le-leb 76 _ (long .if3 .left))
     (sym (c .before .are-given .ensures) ∙ not-true _ (c .if4 .taken)))
 
-read-user-permit-requires : tie.Need-read-user-permit-requires
-read-user-permit-requires c κs = search needs
+read-by-requires : tie.Need-read-by-requires
+read-by-requires c κs = search needs
 
 issue-for-requires : tie.Need-issue-for-requires
 issue-for-requires c κs = search needs
@@ -73,11 +74,11 @@ returns-5 c =
     answered-same _ _ _ _ _
     (issuing-line (args .tenant) (args .register .now) (args .name) (args .expiry) (args .level) (args .permit .now) (length (args .out .now)) own
     (registered (long .before .before)) tenant (le-leb 76 _ (long .if3 .left)) given
-    ∙ line-written (args .book .now) (args .tenant) (start .pre) tenant (args .expiry) (args .level) date low
+    ∙ line-written (args .book .now) (args .tenant) (start .pre .0) tenant (args .expiry) (args .level) date low
     (args .register .now) (args .permit .now) (args .name) (length (args .out .now)) (long .if3 .left)
     ∙ ap
     (λ (ship : UserPermit). lineWritten ship (cellOf (args .name) (own .cells)) (own .setting) (args .expiry) (args .level) (length (args .out .now)))
-    (sym (read .read-user-permit .ensures)))
+    (read-undamaged (args .register .now) (args .permit .now) (registered (long .before .before)) ∙ sym (read .read-by .ensures)))
     (issued .issue-for .ensures)
 
 pub issue-from-spec : {M : Type 1} → statement M
@@ -90,7 +91,7 @@ issue-from-spec =
     returns-3
     are-given-requires
     returns-4
-    read-user-permit-requires
+    read-by-requires
     issue-for-requires
     same-length
     returns-5)

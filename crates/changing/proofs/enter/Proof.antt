@@ -3,72 +3,101 @@
 use mathlib.Core.Path.{_≡_, sym, _∙_}
 use mathlib.Core.Bool.{true}
 use mathlib.Core.List.{List}
-use Prim.Native.Nat.{ℕ, _≤_}
+use Prim.Native.Nat.{ℕ, _+_, _≤_}
+use native.Mathlib.Omega.{arith}
 use borrow.Author.Needs.{needs}
 use borrow.Author.Tests.{not-true, not-false}
+use lib.ListN.{length}
 use Rattle.tenants.specs.declared.Held.{Held}
 use Rattle.tenants.specs.Rules.{isHeld}
-use Rattle.tenants.specs.Together.{fullName}
 use Rattle.tenants.proofs.Ranges.{tenant-is, tenant-not}
-use Rattle.layout.specs.Layout.{isBook}
+use Rattle.layout.specs.Layout.{isBook, ownIn}
+use Rattle.layout.specs.Starts.{judged}
+use Rattle.layout.specs.declared.Judged.the-variants.{Records}
+use Rattle.layout.proofs.Judgements.{judged-says, judged-damaged}
 use Rattle.records.specs.declared.finding.Found.the-variants.{At}
-use Rattle.records.specs.Finding.{searched}
+use Rattle.records.specs.Finding.{searchedFor}
+use Rattle.records.proofs.OwnPart.{counts-held}
+use Rattle.records.proofs.OwnFound.{searches-own}
 use Rattle.changing.proofs.ChangeRules.{refused, entry-damaged, entry-outside, entry-unfit}
 use Rattle.changing.proofs.Done.{entered-held}
 use Rattle.changing.proofs.enter.Statement.{statement}
 use Rattle.changing.proofs.enter.Tie as tie
 
 -- what is known once the book is found undamaged, and the tenant is one
-module _ (e : tie.Else1) where
+module _ (e : tie.After-known-told) where
   abbrev start : tie.Start
-  start = e .before .before .before .before
+  start = e .before .before .before .before .before .before
 
   abbrev s : List ℕ
   s = start .args .book .now
 
-  undamaged : isBook s ≡ true
-  undamaged = sym (e .before .is-book .ensures) ∙ not-false _ (e .if1 .left)
+  judged-so : judged s (start .args .tenant) ≡ Records (e .before .first .given .0 .0) (e .before .first .given .0 .1 .0)
+  judged-so = sym (e .before .before .before .judge .ensures) ∙ e .before .first .given .1
 
-module _ (e : tie.Else2) where
+  undamaged : isBook s ≡ true
+  undamaged = judged-says s (start .args .tenant) _ _ judged-so .0
+
+  -- from where its records begin to where they end they are its cells
+  own-count : e .before .first .given .0 .1 .0 ≡ e .before .first .given .0 .0 + length (ownIn s (start .args .tenant) .cells)
+  own-count =
+      let places = judged-says s (start .args .tenant) _ _ judged-so .1 in
+      omega (arith, places .0, places .1, counts-held s (start .args .tenant))
+
+module _ (e : tie.Else1) where
   abbrev t : ℕ
   t = start (e .before) .args .tenant
 
   tenant : t ≤ 15
-  tenant = e .if2 .left
+  tenant = e .if1 .left
 
 -- and once the cell is found fit
-module _ (e : tie.Else3) where
-  abbrev second : tie.Else2
+module _ (e : tie.Else2) where
+  abbrev second : tie.Else1
   second = e .before .before
 
-  abbrev first : tie.Else1
+  abbrev first : tie.After-known-told
   first = second .before
 
   abbrev cell : Held
   cell = start first .args .cell
 
   fit : isHeld cell ≡ true
-  fit = sym (e .before .is-held .ensures) ∙ not-false _ (e .if3 .left)
+  fit = sym (e .before .is-held .ensures) ∙ not-false _ (e .if2 .left)
+
+-- what the search finds is what it finds among the tenant's own
+told : (f : tie.After-find)
+    → let d = f .before .before in f .find .result ≡ searchedFor (s (first d)) (t (second d)) (cell d .name)
+told f =
+    let d = f .before .before in
+    f .find .ensures ∙ searches-own (s (first d)) (t (second d)) (cell d .name) _ _ (judged-so (first d))
 
 -- the name is held at this place
 module _ (h : tie.After-i) where
-  abbrev fitted : tie.Else3
+  abbrev fitted : tie.Else2
   fitted = h .before .before .before .before
 
-  at-place : searched (s (first fitted)) (fullName (t (second fitted)) (cell fitted .name)) ≡ At (h .i .given .0 .0)
-  at-place = sym (h .before .before .find .ensures) ∙ h .i .given .1
+  at-place : searchedFor (s (first fitted)) (t (second fitted)) (cell fitted .name) ≡ At (h .i .given .0 .0)
+  at-place = sym (told (h .before .before)) ∙ h .i .given .1
 
-is-book-requires : tie.Need-is-book-requires
-is-book-requires c κs = search needs
+judge-requires : tie.Need-judge-requires
+judge-requires c κs = search needs
+
+enum-known-first : tie.Need-enum-known-first
+enum-known-first c = search needs
+
+enum-told : tie.Need-enum-told
+enum-told c = search needs
 
 same-length : tie.Need-same-length
 same-length c = search needs
 
 returns : tie.Need-returns
 returns c =
-    let start = c .before .before .before .before .args in
+    let start = c .before .before .before .before .before .args in
     refused _ _ _ 101
-    (entry-damaged (start .book .now) (start .tenant) (start .cell) (sym (c .before .is-book .ensures) ∙ not-true _ (c .if1 .taken)))
+    (entry-damaged (start .book .now) (start .tenant) (start .cell)
+    (judged-damaged (start .book .now) (start .tenant) (sym (c .before .before .judge .ensures) ∙ c .enum-told .given .1)))
 
 same-length-2 : tie.Need-same-length-2
 same-length-2 c = search needs
@@ -76,7 +105,7 @@ same-length-2 c = search needs
 returns-2 : tie.Need-returns-2
 returns-2 c =
     let e = c .before in
-    refused _ _ _ 102 (entry-outside (s e) (start e .args .tenant) (start e .args .cell) (undamaged e) (tenant-not _ (c .if2 .taken)))
+    refused _ _ _ 102 (entry-outside (s e) (start e .args .tenant) (start e .args .cell) (undamaged e) (tenant-not _ (c .if1 .taken)))
 
 is-held-requires : tie.Need-is-held-requires
 is-held-requires c κs = search needs
@@ -89,7 +118,7 @@ returns-3 c =
     let e = c .before .before in
     refused _ _ _ 103
     (entry-unfit (s (e .before)) (t e) (start (e .before) .args .cell) (undamaged (e .before)) (tenant-is _ (tenant e))
-    (sym (c .before .is-held .ensures) ∙ not-true _ (c .if3 .taken)))
+    (sym (c .before .is-held .ensures) ∙ not-true _ (c .if2 .taken)))
 
 find-requires : tie.Need-find-requires
 find-requires c κs = search needs
@@ -103,12 +132,15 @@ put-record-requires c κs = search needs
 enum-known-i-2 : tie.Need-enum-known-i-2
 enum-known-i-2 c = search needs
 
+sub-enter-new : tie.Need-sub-enter-new
+sub-enter-new c = let d = c .before .before .before .before .before .before in omega (arith, own-count (first d))
+
 enter-new-requires : tie.Need-enter-new-requires
 enter-new-requires c κs =
     let i = c .before .before in
     let f = i .before .before in
     let d = f .before .before in
-    (undamaged (first d), ((tenant (second d), fit d), sym (f .find .ensures) ∙ i .i2 .given .1))
+    (undamaged (first d), ((tenant (second d), fit d), (sym (told f) ∙ i .i2 .given .1, omega (arith, own-count (first d)))))
 
 same-length-4 : tie.Need-same-length-4
 same-length-4 c = search needs
@@ -132,7 +164,9 @@ pub enter-spec : {M : Type 1} → statement M
 enter-spec =
     tie.close
     (tie.spec
-    is-book-requires
+    judge-requires
+    enum-known-first
+    enum-told
     same-length
     returns
     same-length-2
@@ -144,6 +178,7 @@ enter-spec =
     enum-known-i
     put-record-requires
     enum-known-i-2
+    sub-enter-new
     enter-new-requires
     same-length-4
     returns-4

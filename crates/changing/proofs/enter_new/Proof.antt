@@ -5,9 +5,9 @@ use mathlib.Core.List.{List}
 use Prim.Native.Nat.{ℕ}
 use native.Mathlib.Omega.{arith}
 use borrow.Author.Needs.{needs}
+use lib.ListN.{length}
 use Rattle.tenants.specs.declared.Setting.{Setting}
-use Rattle.layout.specs.Layout.{settingAt}
-use Rattle.records.specs.Finding.{heldIn}
+use Rattle.layout.specs.Layout.{settingAt, ownIn}
 use Rattle.changing.proofs.Done.{entered-new, quota-used}
 use Rattle.changing.proofs.enter_new.Statement.{statement}
 use Rattle.changing.proofs.enter_new.Tie as tie
@@ -15,7 +15,7 @@ use Rattle.changing.proofs.enter_new.Tie as tie
 -- what is known when the cells held and the quota are read
 module _ (k : tie.After-setting-of) where
   abbrev start : tie.Start
-  start = k .before .before .before .before .before
+  start = k .before .before .before
 
   abbrev s : List ℕ
   s = start .args .book .now
@@ -23,14 +23,11 @@ module _ (k : tie.After-setting-of) where
   abbrev t : ℕ
   t = start .args .tenant
 
-  holds : k .before .before .held-by .result ≡ heldIn s t
-  holds = k .before .before .held-by .ensures
+  holds : start .args .held ≡ length (ownIn s t .cells)
+  holds = start .pre .1 .1 .1
 
   allows : k .setting-of .result .quota ≡ settingAt s t .quota
   allows = ap (λ (x : Setting). x .quota) (k .setting-of .ensures)
-
-held-by-requires : tie.Need-held-by-requires
-held-by-requires c κs = search needs
 
 setting-of-requires : tie.Need-setting-of-requires
 setting-of-requires c κs = search needs
@@ -48,7 +45,7 @@ returns c =
     let k = test .before in
     let known = start k .pre in
     let does =
-    entered-new (s k) (known .0) (t k) (known .1 .0 .0) (start k .args .cell) (known .1 .0 .1) (start k .args .i) (known .1 .1)
+    entered-new (s k) (known .0) (t k) (known .1 .0 .0) (start k .args .cell) (known .1 .0 .1) (start k .args .i) (known .1 .1 .0)
     (omega (arith, holds k, allows k, test .if1 .taken)) in
     (does .0, entered .insert-record .ensures ∙ does .1)
 
@@ -59,14 +56,13 @@ returns-2 : tie.Need-returns-2
 returns-2 c =
     let k = c .before in
     let known = start k .pre in
-    quota-used (s k) (known .0) (t k) (known .1 .0 .0) (start k .args .cell) (known .1 .0 .1) (start k .args .i) (known .1 .1)
+    quota-used (s k) (known .0) (t k) (known .1 .0 .0) (start k .args .cell) (known .1 .0 .1) (start k .args .i) (known .1 .1 .0)
     (omega (arith, holds k, allows k, c .if1 .left))
 
 pub enter-new-spec : {M : Type 1} → statement M
 enter-new-spec =
     tie.close
     (tie.spec
-    held-by-requires
     setting-of-requires
     insert-record-requires
     same-length

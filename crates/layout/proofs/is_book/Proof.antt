@@ -1,7 +1,7 @@
 -- `layout::is_book` meets its contract. Assumes nothing.
 use mathlib.Core.Path.{sym, _∙_}
 use borrow.Author.Needs.{needs}
-use Rattle.layout.proofs.Judgements.{judged-book, judged-damaged}
+use Rattle.layout.proofs.Judgements.{judged-says, judged-damaged}
 use Rattle.layout.proofs.is_book.Statement.{statement}
 use Rattle.layout.proofs.is_book.Tie as tie
 
@@ -15,7 +15,7 @@ enum-told-2 : tie.Need-enum-told-2
 enum-told-2 c = search needs
 
 returns : tie.Need-returns
-returns c = sym (judged-book _ _ _ _ (sym (c .before .before .judge .ensures) ∙ c .enum-told .given .1))
+returns c = sym (judged-says _ _ _ _ (sym (c .before .before .judge .ensures) ∙ c .enum-told .given .1) .0)
 
 returns-2 : tie.Need-returns-2
 returns-2 c = sym (judged-damaged _ _ (sym (c .before .before .judge .ensures) ∙ c .enum-told2 .given .1))
