@@ -111,8 +111,10 @@ int main(void)
     measure("make user permit", our_make, their_make, "plain C", 20);
     measure("read user permit", our_read, their_read, "plain C", 20);
     measure("read line", our_line, their_line, "plain C", 20);
+    measure("refuse a line", our_wrong_line, their_wrong_line, "plain C", 2000);
     measure("write line", our_write, their_write, "plain C", 20);
     measure("read file line", our_file_line, their_file_line, "plain C", 20);
+    measure("reach a file's end", our_file_end, their_file_end, "plain C", 10000);
     if (!make_books()) {
         puts("the books differ: no more is measured");
         return 1;

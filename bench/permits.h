@@ -1,7 +1,7 @@
 /* The calls of lambukir.h and the look-through, ours and the model's.
 
-   The samples are made for one HW_ID and used in turn: user permits of a register with 256 entries, lines, and a file of these lines.
-   Each call but the look-through sets up a key. */
+   The samples are made for one HW_ID and used in turn: user permits of a register with 256 entries, lines, the same with a wrong last byte,
+   and a file of the lines. Each call sets up a key, but that of a wrong line or at the file's end, and the look-through. */
 #ifndef PERMITS_H
 #define PERMITS_H
 
@@ -16,7 +16,7 @@
 #define OURS "target/bin/look_through"
 #define THEIRS "target/bench/look_through"
 
-static uint8_t reg[ENTRIES * ENTRY_BYTES], permits[SAMPLES][28], lines[SAMPLES][LONGEST_LINE + 40], written[76];
+static uint8_t reg[ENTRIES * ENTRY_BYTES], permits[SAMPLES][28], lines[SAMPLES][LONGEST_LINE + 40], wrong_lines[SAMPLES][LONGEST_LINE + 40], written[76];
 static size_t reg_length, line_lengths[SAMPLES], places[SAMPLES];
 static record records[SAMPLES];
 static uint64_t hw_id;
@@ -34,6 +34,8 @@ static void make_samples(void)
         records[i] = some_record(20240301);
         records[i].edition += records[i].edition == 0;
         line_lengths[i] = line_of(&records[i], hw_id, lines[i]);
+        memcpy(wrong_lines[i], lines[i], line_lengths[i]);
+        wrong_lines[i][line_lengths[i] - 1] = 0x7f;
         places[i] = file.length;
         put_line(&file, lines[i], line_lengths[i], RECORD);
     }
@@ -43,9 +45,11 @@ static void make_samples(void)
 BOTH(model, make, make_user_permit(reg, reg_length, hw_id, m_id_at(reg, NTH), written, sizeof written))
 BOTH(model, read, read_user_permit(reg, reg_length, permits[NTH], 28).hw_id)
 BOTH(model, line, read_line(hw_id, 20240131, 30, lines[NTH], line_lengths[NTH]).key_one)
+BOTH(model, wrong_line, read_line(hw_id, 20240131, 30, wrong_lines[NTH], line_lengths[NTH]).number)
 BOTH(model, write, write_line(hw_id, records[NTH].name, records[NTH].expiry, records[NTH].key_one, records[NTH].key_two, records[NTH].level,
                        records[NTH].edition, records[NTH].server, written, sizeof written).length)
 BOTH(model, file_line, read_file_line(hw_id, 20240131, 30, file.bytes, file.length, places[NTH]).next)
+BOTH(model, file_end, read_file_line(hw_id, 20240131, 30, file.bytes, file.length, file.length).at_end)
 
 /* An input of about so many bytes: the first line, a header and good lines. */
 static void put_look_through(size_t size)

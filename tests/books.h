@@ -120,7 +120,8 @@ static inline size_t spoil_book(uint8_t *b)
 {
     size_t n = record_count();
     uint8_t *setting = b + SETTINGS + random_below(TENANTS) * SETTING;
-    uint8_t *record = b + RECORDS + random_below(n - 1) * RECORD_SIZE, *end = b + RECORDS + n * RECORD_SIZE;
+    uint8_t *record = b + RECORDS + random_below(n - 1) * RECORD_SIZE, *end = b + RECORDS + n * RECORD_SIZE; /* one that another follows */
+    uint8_t *any = b + RECORDS + random_below(n) * RECORD_SIZE;
     switch (random_below(18)) {
     case 0: b[0] = (uint8_t)(2 + random_below(255)); break;
     case 1: b[1 + random_below(2)]++; break;
@@ -128,14 +129,14 @@ static inline size_t spoil_book(uint8_t *b)
     case 3: put16(b + 3, RECORDS + random_below(n) * RECORD_SIZE); break;
     case 4: put16(b + 3, RECORDS + (n + 1) * RECORD_SIZE); break;
     case 5: put16(setting, MOST + 1 - quota_sum() + setting[0] * 256u + setting[1]); break;
-    case 6: put16(b + SETTINGS + record[0] * SETTING, lists.tenants[record[0]].held - 1); break;
+    case 6: put16(b + SETTINGS + any[0] * SETTING, lists.tenants[any[0]].held - 1); break;
     case 7: setting[DAYS_AT] = (uint8_t)(random_below(2) ? 0 : 91 + random_below(165)); break;
     case 8: setting[ID_AT + random_below(2)] = (uint8_t)NO_NAMES[random_below(sizeof NO_NAMES)]; break;
     case 9: setting[SPARE_AT] = (uint8_t)(1 + random_below(255)); break;
     case 10: end[-RECORD_SIZE] = (uint8_t)(16 + random_below(240)); break;
-    case 11: record[NAME_AT + random_below(8)] = (uint8_t)NO_NAMES[random_below(sizeof NO_NAMES)]; break;
-    case 12: put16(record + EDITION_AT, random_below(2) ? 0 : 1000 + random_below(64536)); break;
-    case 13: record[ZEROS_AT + random_below(3)] = (uint8_t)(1 + random_below(255)); break;
+    case 11: any[NAME_AT + random_below(8)] = (uint8_t)NO_NAMES[random_below(sizeof NO_NAMES)]; break;
+    case 12: put16(any + EDITION_AT, random_below(2) ? 0 : 1000 + random_below(64536)); break;
+    case 13: any[ZEROS_AT + random_below(3)] = (uint8_t)(1 + random_below(255)); break;
     case 14: exchange(record); break;
     case 15: memcpy(record + RECORD_SIZE, record, EDITION_AT); break;
     case 16: return random_below(2) ? random_below(BOOK) : BOOK + 1 + random_below(BOOK_ROOM - BOOK);
