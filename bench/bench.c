@@ -5,7 +5,7 @@
      encipher      one block with a ready schedule; what comes out goes into the next call
      decipher      the same
      CRC-32        48 bytes, as of a cell permit, another 48 each time
-     permits       the calls of lambukir.h beside the model's of tests/, see permits.h
+     permits       the calls of lambukir.h beside the model's of tests/, see permits.h: to refuse a line is to read one whose last byte is wrong
      book          the calls of lambukir.h beside book.h's, written by hand in C, see desk.h: enter and then withdraw, two calls, in a book with
                    511 records; the others in a full one; judging is asking for a cell that is not there
      look-through  the program beside bench/look_through.c, each a process of its own: from before its start until it has ended;

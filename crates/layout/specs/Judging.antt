@@ -49,11 +49,12 @@ cellTest p name = ltb name (numberAt 8 p 1) && isCellName (numberAt 8 p 1) && (l
 unfoldable pub spareOf : List ℕ → ℕ
 spareOf p = getD p 20 0 + getD p 21 0 * 256 + getD p 22 0 * 65536 + getD p 23 0 * 16777216
 
--- both
+-- both: the cell is right, and so are its zeros
 abbrev pub recordTest : List ℕ → ℕ → Bool
 recordTest p name = cellTest p name && leb (spareOf p) 255
 
--- the place where tenant t's part of the records ends, which goes on at a place where so many records are left: before the first that is not t's
+-- where tenant t's part of the records ends, of which so many records are left at a place, after one of this name: before the first that is
+-- not t's, and wrong where one of t's is
 unfoldable pub partFrom : List ℕ → ℕ → ℕ → ℕ → ℕ → Part
 partFrom s t name at zero = Ends at
 partFrom s t name at (suc left) =
@@ -66,7 +67,7 @@ abbrev pub onward : Part → (ℕ → Part) → Part
 onward (Ends at) next = next at
 onward Wrong next = Wrong
 
--- where the parts of m tenants from t on end, the first of which begins at a place; each is held to its tenant's quota where it ends
+-- where the parts of m tenants from t on end, which begin at a place; each is held to its tenant's quota where it ends
 unfoldable pub partsFrom : List ℕ → ℕ → ℕ → ℕ → ℕ → Part
 partsFrom s used t at zero = Ends at
 partsFrom s used t at (suc m) =
