@@ -230,16 +230,12 @@ fn up_to_16(t: u32) -> u32
     if t < 16 { t } else { 16 }
 }
 
-// The record that stands at a place.
+// The record that begins at a place.
 fn record_at(place: usize) -> u32
-    requires { ⌜ place ≤ bookSize ⌝ }
+    requires { ⌜ (recordsPlace ≤ place) × (place ≤ bookSize) ⌝ }
     ensures { λ r. ⌜ r ≡ (place - recordsPlace) / recordSize ⌝ }
 {
-    if place < RECORDS_PLACE {
-        0
-    } else {
-        ((place - RECORDS_PLACE) / RECORD_SIZE) as u32
-    }
+    ((place - RECORDS_PLACE) / RECORD_SIZE) as u32
 }
 
 // Judges a book, and tells where a tenant's records stand in it: after the parts of those below, and before those of the others.

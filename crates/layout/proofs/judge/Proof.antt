@@ -96,11 +96,14 @@ to-end : (c : tie.After-known-told3)
 to-end c = rest-told (c .before .before .before) ∙ c .before .end .given .1
 
 -- and that whole records are left there
-first-leaves : (c : tie.After-known-told) → Whole (used (c .before .before .before .before)) (c .before .first .given .0 .0)
-first-leaves c = parts-leave _ _ _ _ _ _ (whole (c .before .before .before .before)) (to-own c) .1
+first-leaves : (c : tie.After-known-told)
+    → (recordsPlace ≤ c .before .first .given .0 .0) × Whole (used (c .before .before .before .before)) (c .before .first .given .0 .0)
+first-leaves c = parts-leave _ _ _ _ _ _ (whole (c .before .before .before .before)) (to-own c)
 
-past-leaves : (c : tie.After-known-told2) → Whole (used (c .before .before .before .before .before .before .before .before)) (c .before .past .given .0 .0)
-past-leaves c = parts-leave _ _ _ _ _ _ (first-leaves (c .before .before .before .before)) (to-next c) .1
+past-leaves : (c : tie.After-known-told2)
+    → (c .before .before .before .before .before .first .given .0 .0 ≤ c .before .past .given .0 .0)
+    × Whole (used (c .before .before .before .before .before .before .before .before)) (c .before .past .given .0 .0)
+past-leaves c = parts-leave _ _ _ _ _ _ (first-leaves (c .before .before .before .before) .1) (to-next c)
 
 book-holds : (c : Begun) → used c ≤ bookSize
 book-holds c = omega (arith, framed c .few)
@@ -146,7 +149,7 @@ returns-2 c =
 parts-from-requires-2 : tie.Need-parts-from-requires-2
 parts-from-requires-2 c κs =
     let begun = c .before .before .before .before in
-    let left = first-leaves c in (
+    let left = first-leaves c .1 in (
       (omega (arith, own-is begun, next-is begun, own-next (tenant begun)), omega (arith, next-is begun, up-to-most (own begun + 1))),
       (omega (arith, used-is begun, left .most), omega (arith, used-is begun, book-holds begun, framed begun .size), omega (arith, used-is begun, left .fits)),
     )
@@ -165,7 +168,7 @@ returns-3 c =
 parts-from-requires-3 : tie.Need-parts-from-requires-3
 parts-from-requires-3 c κs =
     let begun = c .before .before .before .before .before .before .before .before in
-    let left = past-leaves c in (
+    let left = past-leaves c .1 in (
       (omega (arith, next-is begun, up-to-most (own begun + 1)), omega arith),
       (omega (arith, used-is begun, left .most), omega (arith, used-is begun, book-holds begun, framed begun .size), omega (arith, used-is begun, left .fits)),
     )
@@ -192,11 +195,16 @@ returns-5 c =
 
 record-at-requires : tie.Need-record-at-requires
 record-at-requires c κs =
-    let first = c .before .before .before .before .before .before .before .before .before in omega (arith, first-leaves first .most, book-holds (first .before .before .before .before))
+    let first = c .before .before .before .before .before .before .before .before .before in
+    let left = first-leaves first in
+    (left .0, omega (arith, left .1 .most, book-holds (first .before .before .before .before)))
 
 record-at-requires-2 : tie.Need-record-at-requires-2
 record-at-requires-2 c κs =
-    let past = c .before .before .before .before .before .before in omega (arith, past-leaves past .most, book-holds (past .before .before .before .before .before .before .before .before))
+    let past = c .before .before .before .before .before .before in
+    let first = past .before .before .before .before in
+    let left = past-leaves past in
+    (omega (arith, first-leaves first .0, left .0), omega (arith, left .1 .most, book-holds (first .before .before .before .before)))
 
 returns-6 : tie.Need-returns-6
 returns-6 c =
