@@ -17,7 +17,7 @@ use cell_permit::Cell;
 use cell_permit::Line;
 use forms::Written;
 use forms::identifiers::is_cell_name;
-use layout::Judged;
+use judging::Judged;
 use records::finding::Found;
 use records::finding::cell_at;
 use records::finding::find;
@@ -45,7 +45,7 @@ fn edition_in(book: &[u8], found: Found, tenant: u32, name: u64) -> Asked
 pub fn ask_edition(book: &[u8], tenant: u32, name: u64) -> Asked
     ensures { λ r. ⌜ r ≡ editionIn (now (book .entry)) tenant name ⌝ }
 {
-    let Judged::Records { first, past } = layout::judge(book, tenant) else {
+    let Judged::Records { first, past } = judging::judge(book, tenant) else {
         return Asked::Refused(101);
     };
     let found = find(book, first, past, name);
@@ -153,7 +153,7 @@ pub fn issue(
         × (now (out .exit) ≡ lentAfter (issuedFrom (now (book .entry)) (now (register .entry)) tenant name expiry level
         (now (permit .entry)) (length (now (out .entry)))) (now (out .entry))) ⌝ }
 {
-    let Judged::Records { first, past } = layout::judge(book, tenant) else {
+    let Judged::Records { first, past } = judging::judge(book, tenant) else {
         return Written::Refused(101);
     };
     let found = find(book, first, past, name);
@@ -186,7 +186,7 @@ fn check_by(book: &[u8], tenant: u32, hw: u64, today: u32, line: &[u8]) -> Line
 pub fn check(book: &[u8], tenant: u32, hw: u64, today: u32, line: &[u8]) -> Line
     ensures { λ r. ⌜ r ≡ checkedBy (now (book .entry)) tenant hw today (now (line .entry)) ⌝ }
 {
-    if !layout::is_book(book) {
+    if !judging::is_book(book) {
         return Line::Refused(101);
     }
     check_by(book, tenant, hw, today, line)

@@ -8,7 +8,7 @@ ghost use Rattle.layout.specs.Layout.{isBook, ownIn};
 ghost use Rattle.records.specs.Finding.{searchedFor};
 ghost use Rattle.records.specs.declared.finding.Found.the-variants.{Absent};
 ghost use Rattle.changing.specs.Changing.{entry, withdrawal, newDays, bytesAfter};
-use layout::Judged;
+use judging::Judged;
 use layout::SETTING_SIZE;
 use layout::SETTINGS_PLACE;
 use records::finding::Found;
@@ -55,7 +55,7 @@ pub fn enter(book: &mut [u8], tenant: u32, cell: Held) -> u32
     ensures { λ r. ⌜ (r ≡ changeNumber (entry (now (book .entry)) tenant cell))
         × (now (book .exit) ≡ bytesAfter tenant (entry (now (book .entry)) tenant cell) (now (book .entry))) ⌝ }
 {
-    let Judged::Records { first, past } = layout::judge(book, tenant) else {
+    let Judged::Records { first, past } = judging::judge(book, tenant) else {
         return 101;
     };
     if 15 < tenant {
@@ -78,7 +78,7 @@ pub fn withdraw(book: &mut [u8], tenant: u32, name: u64) -> u32
     ensures { λ r. ⌜ (r ≡ changeNumber (withdrawal (now (book .entry)) tenant name))
         × (now (book .exit) ≡ bytesAfter tenant (withdrawal (now (book .entry)) tenant name) (now (book .entry))) ⌝ }
 {
-    let Judged::Records { first, past } = layout::judge(book, tenant) else {
+    let Judged::Records { first, past } = judging::judge(book, tenant) else {
         return 101;
     };
     if 15 < tenant {
@@ -99,7 +99,7 @@ pub fn set_days(book: &mut [u8], tenant: u32, days: u32) -> u32
     ensures { λ r. ⌜ (r ≡ changeNumber (newDays (now (book .entry)) tenant days))
         × (now (book .exit) ≡ bytesAfter tenant (newDays (now (book .entry)) tenant days) (now (book .entry))) ⌝ }
 {
-    if !layout::is_book(book) {
+    if !judging::is_book(book) {
         return 101;
     }
     if 15 < tenant {

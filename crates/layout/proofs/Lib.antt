@@ -8,17 +8,4 @@ pub mod Indexed
 pub mod Splits
 pub mod Written
 pub mod Frame
-pub mod Parts
-pub mod Zeros
-pub mod AllFrom
 pub mod QuotaSums
-pub mod SettingTests
-pub mod RecordTests
-pub mod PartSteps
-pub mod PartsSteps
-pub mod OnePart
-pub mod StartPlaces
-pub mod AllParts
-pub mod QuotaTests
-pub mod Tested
-pub mod Judgements

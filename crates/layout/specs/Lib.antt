@@ -1,4 +1,2 @@
 pub mod Layout
-pub mod Starts
 pub mod Readable
-pub mod Judging

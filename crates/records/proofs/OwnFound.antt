@@ -14,7 +14,7 @@ use Rattle.tenants.proofs.OwnCells.{cell-found, cell-absent}
 use Rattle.layout.specs.Layout.{recordAt, recordCount, bookOf, isBook, ownIn}
 use Rattle.layout.proofs.Indexed.{book-count, book-record}
 use Rattle.layout.proofs.Promises.{good}
-use Rattle.layout.proofs.Judgements.{judged-says}
+use Rattle.judging.proofs.Judgements.{judged-says}
 use Rattle.records.specs.declared.finding.Found.the-variants.{At, Absent}
 use Rattle.records.specs.Finding.{searched, searchedFor, SearchesOwn, FindsHeld, FindsNone}
 use Rattle.records.proofs.Found.{Here, Gone, found-at, found-absent}

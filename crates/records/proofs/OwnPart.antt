@@ -16,10 +16,10 @@ use Rattle.bytes.proofs.Places.{number-written}
 use Rattle.tenants.specs.Together.{BookRecord, names, fullName, tenantOf, nameOf, ownOf}
 use Rattle.tenants.proofs.Ordered.{Above, Sorted}
 use Rattle.layout.specs.Layout.{zeros, recordBytes, recordPlace, recordAt, recordCount, bookOf, isBook}
-use Rattle.layout.specs.Starts.{startOf, firstIn, pastIn}
+use Rattle.judging.specs.Starts.{startOf, firstIn, pastIn}
 use Rattle.layout.proofs.Indexed.{book-count}
 use Rattle.layout.proofs.Promises.{good, written-so}
-use Rattle.layout.proofs.StartPlaces.{start-next}
+use Rattle.judging.proofs.StartPlaces.{start-next}
 use Rattle.layout.proofs.Splits.{bytesBefore, bytesFrom, before-size, cut-bytes}
 use Rattle.records.specs.Finding.{nameAt, CountsHeld}
 use Rattle.records.proofs.Found.{placeOf, place-here, place-later}

@@ -13,7 +13,7 @@ use Rattle.bytes.proofs.Every.{either}
 use Rattle.bytes.proofs.Places.{number-at-below}
 use Rattle.tenants.specs.Together.{names, fullName}
 use Rattle.layout.specs.Layout.{recordAt, recordCount, bookOf, isBook}
-use Rattle.layout.specs.Starts.{firstIn, pastIn}
+use Rattle.judging.specs.Starts.{firstIn, pastIn}
 use Rattle.layout.proofs.Indexed.{book-count}
 use Rattle.layout.proofs.Promises.{good}
 use Rattle.records.specs.declared.finding.Found.the-variants.{At, Absent}

@@ -11,8 +11,8 @@ use Rattle.bytes.specs.Places.{numberAt}
 use Rattle.tenants.specs.Cells.{cellOf}
 use Rattle.tenants.specs.Together.{names, cellIn}
 use Rattle.layout.specs.Layout.{recordPlace, recordAt, isBook, ownIn}
-use Rattle.layout.specs.Starts.{firstIn, pastIn, judged}
-use Rattle.layout.specs.declared.Judged.the-variants.{Records}
+use Rattle.judging.specs.Starts.{firstIn, pastIn, judged}
+use Rattle.judging.specs.declared.Judged.the-variants.{Records}
 use Rattle.records.specs.declared.finding.Found.{Found}
 use Rattle.records.specs.declared.finding.Found.the-variants.{At, Absent}
 

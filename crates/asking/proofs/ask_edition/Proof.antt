@@ -2,9 +2,9 @@
 -- Assumes nothing.
 use mathlib.Core.Path.{_≡_, sym, _∙_}
 use borrow.Author.Needs.{needs}
-use Rattle.layout.specs.Starts.{judged}
-use Rattle.layout.specs.declared.Judged.the-variants.{Records}
-use Rattle.layout.proofs.Judgements.{judged-says, judged-damaged}
+use Rattle.judging.specs.Starts.{judged}
+use Rattle.judging.specs.declared.Judged.the-variants.{Records}
+use Rattle.judging.proofs.Judgements.{judged-says, judged-damaged}
 use Rattle.records.proofs.OwnFound.{searches-own}
 use Rattle.asking.proofs.AnswerRules.{edition-damaged, edition-ruled}
 use Rattle.asking.proofs.ask_edition.Statement.{statement}

@@ -3,9 +3,9 @@
 use mathlib.Core.Path.{_≡_, sym, _∙_}
 use borrow.Author.Needs.{needs}
 use Rattle.forms.proofs.Outputs.{refused}
-use Rattle.layout.specs.Starts.{judged}
-use Rattle.layout.specs.declared.Judged.the-variants.{Records}
-use Rattle.layout.proofs.Judgements.{judged-says, judged-damaged}
+use Rattle.judging.specs.Starts.{judged}
+use Rattle.judging.specs.declared.Judged.the-variants.{Records}
+use Rattle.judging.proofs.Judgements.{judged-says, judged-damaged}
 use Rattle.records.proofs.OwnFound.{searches-own}
 use Rattle.asking.proofs.AnswerRules.{answered-same, issued-damaged, issued-ruled}
 use Rattle.asking.proofs.issue.Statement.{statement}

@@ -12,9 +12,9 @@ use Rattle.tenants.specs.declared.Held.{Held}
 use Rattle.tenants.specs.Rules.{isHeld}
 use Rattle.tenants.proofs.Ranges.{tenant-is, tenant-not}
 use Rattle.layout.specs.Layout.{isBook, ownIn}
-use Rattle.layout.specs.Starts.{judged}
-use Rattle.layout.specs.declared.Judged.the-variants.{Records}
-use Rattle.layout.proofs.Judgements.{judged-says, judged-damaged}
+use Rattle.judging.specs.Starts.{judged}
+use Rattle.judging.specs.declared.Judged.the-variants.{Records}
+use Rattle.judging.proofs.Judgements.{judged-says, judged-damaged}
 use Rattle.records.specs.declared.finding.Found.the-variants.{At}
 use Rattle.records.specs.Finding.{searchedFor}
 use Rattle.records.proofs.OwnPart.{counts-held}

@@ -1,0 +1,13 @@
+pub mod Parts
+pub mod Zeros
+pub mod AllFrom
+pub mod SettingTests
+pub mod RecordTests
+pub mod PartSteps
+pub mod PartsSteps
+pub mod OnePart
+pub mod StartPlaces
+pub mod AllParts
+pub mod QuotaTests
+pub mod Tested
+pub mod Judgements
