@@ -5,15 +5,16 @@ use mathlib.Core.Bool.{Bool, true, false, cond, _&&_}
 use mathlib.Core.List.{List}
 use Prim.Native.Nat.{ℕ, zero, suc, _+_, _-_, _/_, _≤_, _<_}
 use native.Mathlib.Omega.{arith}
-use borrow.Author.Tests.{ltb-true, ltb-false, eqb-true, eqb-false, lt-ltb, le-ltb, eq-eqb, ne-eqb}
+use borrow.Author.Tests.{le-leb, lt-leb, ltb-true, ltb-false, eqb-true, eqb-false, lt-ltb, le-ltb, eq-eqb, ne-eqb}
 use lib.Dec.{ltb, eqb}
 use lib.ListN.{length, getD}
 use Rattle.bytes.specs.Numbers.{Below}
 use Rattle.bytes.proofs.Every.{either}
 use Rattle.bytes.proofs.Places.{number-at-below}
 use Rattle.tenants.specs.Together.{names, fullName}
-use Rattle.layout.specs.Layout.{recordAt, recordCount, bookOf, isBook}
+use Rattle.layout.specs.Layout.{usedLength, recordAt, recordCount, bookOf, isBook}
 use Rattle.judging.specs.Starts.{firstIn, pastIn}
+use Rattle.layout.proofs.Frame.{book-frame}
 use Rattle.layout.proofs.Indexed.{book-count}
 use Rattle.layout.proofs.Promises.{good}
 use Rattle.records.specs.declared.finding.Found.the-variants.{At, Absent}
@@ -70,10 +71,11 @@ module _ (at : ℕ → ℕ) (name : ℕ) where
       let done : high ≤ low = ltb-false low high no in
       halved-done (suc times) low high done ∙ sym (halved-done (suc others) low high done))
 
--- what is left is from low to high, in four bytes each, and to halve it ends at the place
+-- what is left is from low to high, no higher than past, in four bytes each, and to halve it ends at the place
 pub record Left (s : List ℕ) (first past name low high : ℕ) : Type 0 where
   pub low-fits : low < 4294967296
   pub high-fits : high < 4294967296
+  pub most : high ≤ past
   pub ends : (times : ℕ) → high - low ≤ times → halved (nameAt s) name times low high ≡ placeIn s first past name
 
 module _ (s : List ℕ) (first past name : ℕ) where
@@ -82,6 +84,7 @@ module _ (s : List ℕ) (first past name : ℕ) where
   all-left a b = record {
     low-fits = a;
     high-fits = b;
+    most = omega arith;
     ends = λ times h. more-times (nameAt s) name times (past - first) first past h (omega arith);
   }
 
@@ -90,6 +93,7 @@ module _ (s : List ℕ) (first past name : ℕ) where
     left-up left lower = record {
       low-fits = omega (arith, so-far .high-fits);
       high-fits = so-far .high-fits;
+      most = so-far .most;
       ends = λ times h.
           more-times (nameAt s) name times (high - low) ((low + high) / 2 + 1) high h (omega arith)
           ∙ sym (halved-up (nameAt s) name (high - low) low high left (lt-ltb _ _ lower))
@@ -100,6 +104,7 @@ module _ (s : List ℕ) (first past name : ℕ) where
     left-down left upper = record {
       low-fits = so-far .low-fits;
       high-fits = omega (arith, so-far .high-fits);
+      most = omega (arith, so-far .most);
       ends = λ times h.
           more-times (nameAt s) name times (high - low) low ((low + high) / 2) h (omega arith)
           ∙ sym (halved-down (nameAt s) name (high - low) low high left (le-ltb _ _ upper))
@@ -109,11 +114,15 @@ module _ (s : List ℕ) (first past name : ℕ) where
     pub none-left : high ≤ low → low ≡ placeIn s first past name
     none-left done = sym (halved-done (nameAt s) name 0 low high done) ∙ so-far .ends 0 (omega arith)
 
+  pub found-beyond : length s < usedLength past → Absent first ≡ searched s first past name
+  unfolding searched
+  found-beyond short = sym (rw (lt-leb (usedLength past) (length s) short))
+
   -- the search's answers, by what stands at the place
-  module _ (i : ℕ) (ended : i ≡ placeIn s first past name) where
+  module _ (within : usedLength past ≤ length s) (i : ℕ) (ended : i ≡ placeIn s first past name) where
     is-searched : foundAt s past name i ≡ searched s first past name
     unfolding searched
-    is-searched = ap (foundAt s past name) ended
+    is-searched = ap (foundAt s past name) ended ∙ sym (rw (le-leb (usedLength past) (length s) within))
 
     pub found-this : i < past → nameAt s i ≡ name → At i ≡ searched s first past name
     found-this inside this = found ∙ is-searched
@@ -199,6 +208,7 @@ module _ (s : List ℕ) (undamaged : isBook s ≡ true) (t name : ℕ) (small : 
   pub search-says : searchedFor s t name ≡ foundIn (fullName t name) (bookOf s .records)
   unfolding searched foundIn
   search-says =
-      rw place-is
+      let frame = book-frame s undamaged in
+      rw (le-leb (usedLength (pastIn s t)) (length s) (omega (arith, past-within s undamaged t, frame .size, frame .few)), place-is)
       (ap (λ (held : Bool). cond held (At place) (Absent place))
       (tests-say ∙ sym (held-there (fullName t name) (recordAt s place) (bookOf s .records) (good s undamaged .sorted))))

@@ -5,12 +5,12 @@ use mathlib.Core.Bool.{true, cond, _&&_}
 use mathlib.Core.List.{List}
 use mathlib.Core.Option.{none, some}
 use Prim.Native.Nat.{ℕ, zero, suc, _+_, _-_, _/_, _<_}
-use lib.Dec.{ltb, eqb}
+use lib.Dec.{leb, ltb, eqb}
 use lib.ListN.{length}
 use Rattle.bytes.specs.Places.{numberAt}
 use Rattle.tenants.specs.Cells.{cellOf}
 use Rattle.tenants.specs.Together.{names, cellIn}
-use Rattle.layout.specs.Layout.{recordPlace, recordAt, isBook, ownIn}
+use Rattle.layout.specs.Layout.{usedLength, recordPlace, recordAt, isBook, ownIn}
 use Rattle.judging.specs.Starts.{firstIn, pastIn, judged}
 use Rattle.judging.specs.declared.Judged.the-variants.{Records}
 use Rattle.records.specs.declared.finding.Found.{Found}
@@ -38,9 +38,9 @@ placeIn s first past name = halved (nameAt s) name (past - first) first past
 abbrev pub foundAt : List ℕ → ℕ → ℕ → ℕ → Found
 foundAt s past name i = cond (ltb i past && eqb (nameAt s i) name) (At i) (Absent i)
 
--- what the search for a name finds among the records from first up to past
+-- what the search for a name finds among the records from first up to past; none where these do not lie within s
 unfoldable pub searched : List ℕ → ℕ → ℕ → ℕ → Found
-searched s first past name = foundAt s past name (placeIn s first past name)
+searched s first past name = cond (leb (usedLength past) (length s)) (foundAt s past name (placeIn s first past name)) (Absent first)
 
 -- and among those of tenant t
 abbrev pub searchedFor : List ℕ → ℕ → ℕ → Found

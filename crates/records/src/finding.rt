@@ -1,8 +1,9 @@
 // The search among a book's records, by halving.
 ghost use mathlib.Core.Path.{_≡_};
-ghost use Prim.Native.Nat.{_<_};
+ghost use Prim.Native.Nat.{_+_, _≤_};
+ghost use lib.ListN.{length};
 ghost use Rattle.tenants.specs.Together.{cellIn};
-ghost use Rattle.layout.specs.Layout.{recordAt};
+ghost use Rattle.layout.specs.Layout.{recordSize, usedLength, recordPlace, recordAt};
 ghost use Rattle.records.specs.Finding.{nameAt, placeIn, searched};
 use bytes::numbers::number16;
 use bytes::numbers::number40;
@@ -19,14 +20,16 @@ pub enum Found {
 
 // The name of record i, without its tenant.
 fn name_at(book: &[u8], i: usize) -> u64
-    requires { ⌜ i < 4294967296 ⌝ }
+    requires { ⌜ recordPlace i + recordSize ≤ length (now book) ⌝ }
     ensures { λ r. ⌜ r ≡ nameAt (now (book .entry)) i ⌝ }
 {
-    number64(book, RECORDS_PLACE + RECORD_SIZE * i + 1)
+    let at = RECORDS_PLACE + RECORD_SIZE * i;
+    number64(&book[at..at + RECORD_SIZE], 1)
 }
 
 // Where the search for a name ends: what is left is halved until nothing is.
 fn place_of(book: &[u8], first: u32, past: u32, name: u64) -> u32
+    requires { ⌜ usedLength past ≤ length (now book) ⌝ }
     ensures { λ r. ⌜ r ≡ placeIn (now (book .entry)) first past name ⌝ }
 {
     let mut low = first as usize;
@@ -46,6 +49,9 @@ fn place_of(book: &[u8], first: u32, past: u32, name: u64) -> u32
 pub fn find(book: &[u8], first: u32, past: u32, name: u64) -> Found
     ensures { λ r. ⌜ r ≡ searched (now (book .entry)) first past name ⌝ }
 {
+    if book.len() < RECORDS_PLACE + RECORD_SIZE * past as usize {
+        return Found::Absent(first);
+    }
     let i = place_of(book, first, past, name);
     if i < past {
         if name_at(book, i as usize) == name {

@@ -178,10 +178,22 @@ module _ (last : ℕ) (letter : (last ≡ byte "F") ⊎ (last ≡ byte "Z")) whe
       ∙ ap₂ (λ (a b : Bool). a && b) (at-once n (x / 256)) (up-to-byte last (x % 256) letter (low-lt x) ∙ sym (and-true (upTo last (x % 256))))
       ∙ sym (ap (allOf (upTo last)) (digits-low 256 n x) ∙ all-append (upTo last) (bytesOf n (x / 256)) (x % 256 ∷ []))
 
-  pub one-set : (n x : ℕ) → (tops n x ≡ 0 → ⊥) → false ≡ allOf (upTo last) (bytesOf n x)
-  unfolding areUpTo
-  one-set n x set = rw (ne-eqb (tops n x) 0 set) at (at-once n x)
+  -- a number whose top bits are looked at as well as those of x: where x has none set, it is `odd`
+  module _ (n x y : ℕ) (is : tops n x ≡ 0 → y ≡ odd last n x) where
+    pub all-set : tops n y ≡ bytesAll 128 n → eqb (tops n x) 0 ≡ allOf (upTo last) (bytesOf n x)
+    unfolding areUpTo
+    all-set all =
+        either (eqb (tops n x) 0)
+        (λ none.
+        let so : tops n (odd last n x) ≡ bytesAll 128 n = ap (tops n) (sym (is (eqb-true (tops n x) 0 none))) ∙ all in
+        rw none (rw (none, eq-eqb (tops n (odd last n x)) (bytesAll 128 n) so) at (at-once n x)))
+        (λ set. rw set (rw set at (at-once n x)))
 
-  pub none-set : (n x : ℕ) → tops n x ≡ 0 → eqb (tops n (odd last n x)) (bytesAll 128 n) ≡ allOf (upTo last) (bytesOf n x)
-  unfolding areUpTo
-  none-set n x none = rw (eq-eqb (tops n x) 0 none) at (at-once n x)
+    pub not-all-set : (tops n y ≡ bytesAll 128 n → ⊥) → false ≡ allOf (upTo last) (bytesOf n x)
+    unfolding areUpTo
+    not-all-set not =
+        either (eqb (tops n x) 0)
+        (λ none.
+        let other : (tops n (odd last n x) ≡ bytesAll 128 n) → ⊥ = λ e. not (ap (tops n) (is (eqb-true (tops n x) 0 none)) ∙ e) in
+        rw (none, ne-eqb (tops n (odd last n x)) (bytesAll 128 n) other) at (at-once n x))
+        (λ set. rw set at (at-once n x))

@@ -6,6 +6,7 @@ ghost use lib.Dec.{eqb};
 ghost use Rattle.bytes.specs.Numbers.{bytesOf};
 ghost use Rattle.bytes.specs.Every.{allOf};
 ghost use Rattle.text.specs.Characters.{between, isDigit, isUpperHex, isNameCharacter};
+use std::num::wrapping_add_u64;
 
 // The top bit of each byte.
 const TOP: u64 = 0x8080_8080_8080_8080;
@@ -21,16 +22,17 @@ const FROM_A: u64 = 0x3f3f_3f3f_3f3f_3f3f;
 const EIGHT: u64 = 0x0101_0101_0101_0101;
 
 // Whether the eight bytes of x are all of 0-9 or from A to the last letter, F or Z. An odd number of the four top bits is set exactly for these characters.
+// A sum carries into the next byte only from one whose own top bit is set, which is refused by itself.
 fn are_digits_or_capitals(last: u8, x: u64) -> bool
     requires { ⌜ (eqb last 70 || eqb last 90) ≡ true ⌝ }
     ensures { λ r. ⌜ r ≡ allOf (λ (c : ℕ). isDigit c || between 65 last c) (bytesOf 8 x) ⌝ }
 {
-    if x & TOP != 0 {
-        return false;
-    }
     let past = (127 - last) as u64 * EIGHT;
-    let y = (x + FROM_0) ^ (x + PAST_9) ^ (x + FROM_A) ^ (x + past);
-    y & TOP == TOP
+    let y = wrapping_add_u64(x, FROM_0)
+        ^ wrapping_add_u64(x, PAST_9)
+        ^ wrapping_add_u64(x, FROM_A)
+        ^ wrapping_add_u64(x, past);
+    y & TOP == TOP && x & TOP == 0
 }
 
 // Whether the eight bytes of x are all of A-Z 0-9.

@@ -20,7 +20,7 @@ add-middle : tie.Need-add-middle Inv-loop μ-loop
 add-middle c = omega (arith, c .before .loop .inv .high-fits)
 
 name-at-requires : tie.Need-name-at-requires Inv-loop μ-loop
-name-at-requires c κs = omega (arith, c .before .loop .inv .high-fits)
+name-at-requires c κs = omega (arith, c .before .loop .inv .most)
 
 add-low : tie.Need-add-low Inv-loop μ-loop
 add-low c = search needs
