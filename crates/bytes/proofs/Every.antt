@@ -1,6 +1,6 @@
 -- What a test of every byte says of each of them. Assumes nothing.
-use mathlib.Core.Path.{_≡_, refl, sym}
-use mathlib.Core.Bool.{Bool, true, false, _&&_}
+use mathlib.Core.Path.{_≡_, refl, sym, _∙_}
+use mathlib.Core.Bool.{Bool, true, false, _&&_, _||_, false≢true}
 use mathlib.Core.List.{List, [], _∷_}
 use Prim.Native.Nat.{ℕ, zero, suc, _<_, suc-le-suc}
 use native.Mathlib.Nat.{le-of-suc-le-suc, not-suc-le-zero, zero-lt-suc}
@@ -14,6 +14,17 @@ and-first false b e = e
 pub and-second : (a b : Bool) → (a && b) ≡ true → b ≡ true
 and-second true b e = e
 and-second false b e = cc
+
+pub or-first : (a b : Bool) → (a || b) ≡ false → a ≡ false
+or-first true b e = e
+or-first false b e = refl
+
+pub or-second : (a b : Bool) → (a || b) ≡ false → b ≡ false
+or-second true b e = cc
+or-second false b e = e
+
+pub never-both : (t : Bool) → t ≡ false → t ≡ true → ⊥
+never-both t no-t yes-t = false≢true (sym no-t ∙ yes-t)
 
 pub either {ℓ} : {P : Type ℓ} (t : Bool) → (t ≡ true → P) → (t ≡ false → P) → P
 either true one other = one refl

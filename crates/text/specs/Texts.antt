@@ -36,6 +36,11 @@ sameText (a ∷ s) (b ∷ t) = eqb a b && sameText s t
 abbrev pub standsAt : List ℕ → List ℕ → ℕ → Bool
 standsAt t s at = sameText (part (length t) s at) t
 
+-- a byte put before the first of some texts
+unfoldable pub onto : ℕ → List (List ℕ) → List (List ℕ)
+onto c [] = (c ∷ []) ∷ []
+onto c (t ∷ ts) = (c ∷ t) ∷ ts
+
 -- s with the text t put at a place; s as it was where t does not lie within it
 unfoldable pub placed : ℕ → List ℕ → List ℕ → List ℕ
 placed at t s = cond (leb (at + length t) (length s)) (take at s ++ (t ++ drop (at + length t) s)) s
