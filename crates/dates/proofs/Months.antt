@@ -2,12 +2,12 @@
 -- Assumes nothing.
 use mathlib.Core.Path.{_≡_, refl, sym}
 use mathlib.Core.Logic.{_⊎_, inl, inr, ⊎-elim}
-use mathlib.Core.Bool.{Bool, true, false, cond, _&&_, _||_}
+use mathlib.Core.Bool.{Bool, true, false, cond, _&&_, _||_, and-true}
 use mathlib.Core.List.{List, [], _∷_}
-use Prim.Native.Nat.{ℕ, zero, suc, _+_, _-_, _*_, _/_, _≤_}
+use Prim.Native.Nat.{ℕ, zero, suc, _+_, _-_, _*_, _/_, _≤_, _<_}
 use native.Mathlib.Nat.{eq-or-lt-of-le}
 use native.Mathlib.Omega.{arith}
-use borrow.Author.Tests.{eqb-true, ne-eqb}
+use borrow.Author.Tests.{eqb-true, ne-eqb, le-leb}
 use lib.Dec.{eqb, leb}
 use lib.ListN.{getD, take}
 use Rattle.dates.specs.Calendar.{isLeap, monthLengths, daysIn, within, sum, daysBeforeMonth}
@@ -48,6 +48,15 @@ module _ (y m : ℕ) (low : 1 ≤ m) (high : m ≤ 12) where
   month-long =
       let test : Bool → ℕ → Bool = λ leap m. within 28 31 (getD (monthLengths leap) (m - 1) 0) in
       bounds _ _ _ (each-month test refl refl (isLeap y) m low high)
+
+  -- every month has 28 days
+  pub early-day : (d : ℕ) → d < 29 → within 1 (daysIn y m) d ≡ leb 1 d
+  unfolding within
+  early-day d early = rw (le-leb d (daysIn y m) (omega (arith, month-long .0)), and-true (leb 1 d))
+
+pub late-day : (n d : ℕ) → 29 ≤ d → within 1 n d ≡ leb d n
+unfolding within
+late-day n d late = rw (le-leb 1 d (omega arith))
 
 -- the lengths, in the code's order
 pub february : (y m : ℕ) → m ≡ 2 → daysIn y m ≡ cond (isLeap y) 29 28

@@ -49,7 +49,7 @@ fn within(low: u32, high: u32, n: u32) -> bool
     n <= high
 }
 
-// Whether a number is a date of the years 1900 to 2999.
+// Whether a number is a date of the years 1900 to 2999. Every month has 28 days: its length is asked for beyond them alone.
 pub fn is_date(date: u32) -> bool
     ensures { λ r. ⌜ r ≡ isDate date ⌝ }
 {
@@ -61,7 +61,11 @@ pub fn is_date(date: u32) -> bool
     if !within(1, 12, month) {
         return false;
     }
-    within(1, days_in(year, month), date % 100)
+    let day = date % 100;
+    if day < 29 {
+        return 1 <= day;
+    }
+    day <= days_in(year, month)
 }
 
 // From March on a month starts a day or two earlier than if February had 30 days.

@@ -1,4 +1,5 @@
 pub mod Fits
+pub mod EightDigits
 pub mod DateTexts
 pub mod Filled
 pub mod OnePlace

@@ -72,15 +72,18 @@ module _ (n x : ℕ) where
   low-small : bitAnd (x % 256) 128 ≡ 0 → x % 256 < 128
   low-small none = ltb-true (x % 256) 128 (sym (top-byte (x % 256) (low-lt x)) ∙ eq-eqb (bitAnd (x % 256) 128) 0 none)
 
+  -- where no top bit is set, none is set in the other bytes, nor in the lowest
+  pub none-set : tops (suc n) x ≡ 0 → (tops n (x / 256) ≡ 0) × (x % 256 < 128)
+  none-set none = (omega (arith, tops-parts), low-small (omega (arith, tops-parts)))
+
 -- n bytes without their top bits are at most 127 each
 pub none-above : (n x : ℕ) → x < 256 ^ n → tops n x ≡ 0 → x ≤ bytesAll 127 n
 unfolding bytesAll
 none-above zero x fits none = omega arith
 none-above (suc n) x fits none =
-    let low : bitAnd (x % 256) 128 ≡ 0 = omega (arith, tops-parts n x) in
-    let high : tops n (x / 256) ≡ 0 = omega (arith, tops-parts n x) in
+    let parts = none-set n x none in
     let rest : x / 256 < 256 ^ n = div-lt-iff-lt-mul {k = 256} (omega arith) .1 (rw pow-suc at fits) in
-    omega (arith, none-above n (x / 256) rest high, low-small n x low)
+    omega (arith, none-above n (x / 256) rest (parts .0), parts .1)
 
 -- 0-9, or a capital letter up to the last one
 abbrev upTo : ℕ → ℕ → Bool
@@ -94,19 +97,27 @@ odd last n x = bitXor (bitXor (bitXor (x + bytesAll 80 n) (x + bytesAll 70 n)) (
 unfoldable areUpTo : ℕ → ℕ → ℕ → Bool
 areUpTo last n x = eqb (tops n x) 0 && eqb (tops n (odd last n x)) (bytesAll 128 n)
 
--- the last letters of the two alphabets
-pub last-letter : (last : ℕ) → (eqb last (byte "F") || eqb last (byte "Z")) ≡ true → (last ≡ byte "F") ⊎ (last ≡ byte "Z")
+-- the last letter of an alphabet: F, Z, or the character before A where it has none
+abbrev pub Last : ℕ → Type 0
+Last last = (last ≡ byte "@") ⊎ ((last ≡ byte "F") ⊎ (last ≡ byte "Z"))
+
+pub last-letter : (last : ℕ) → (eqb last (byte "@") || eqb last (byte "F") || eqb last (byte "Z")) ≡ true → Last last
 last-letter last letter =
+    either (eqb last (byte "@"))
+    (λ e. inl (eqb-true last (byte "@") e))
+    (λ other.
     either (eqb last (byte "F"))
-    (λ e. inl (eqb-true last (byte "F") e))
-    (λ e. inr (eqb-true last (byte "Z") (rw e at letter)))
+    (λ e. inr (inl (eqb-true last (byte "F") e)))
+    (λ e. inr (inr (eqb-true last (byte "Z") (rw (other, e) at letter)))))
 
 -- of each byte, by computing it
-up-to-byte : (last l : ℕ) → (last ≡ byte "F") ⊎ (last ≡ byte "Z") → l < 256 → areUpTo last 1 l ≡ upTo last l
+up-to-byte : (last l : ℕ) → Last last → l < 256 → areUpTo last 1 l ≡ upTo last l
 unfolding alike areUpTo odd bytesAll isDigit
 up-to-byte last l (inl e) fits =
+    rw e (alike-same _ _ (computed 256 (λ (k : ℕ). alike (areUpTo (byte "@") 1 k) (upTo (byte "@") k)) tt l fits))
+up-to-byte last l (inr (inl e)) fits =
     rw e (alike-same _ _ (computed 256 (λ (k : ℕ). alike (areUpTo (byte "F") 1 k) (upTo (byte "F") k)) tt l fits))
-up-to-byte last l (inr e) fits =
+up-to-byte last l (inr (inr e)) fits =
     rw e (alike-same _ _ (computed 256 (λ (k : ℕ). alike (areUpTo (byte "Z") 1 k) (upTo (byte "Z") k)) tt l fits))
 
 module _ (last : ℕ) where
@@ -169,7 +180,7 @@ module _ (last : ℕ) where
         (λ e. let both = apart (passed-says (suc n) x e) in rw (passed-so n (x / 256) (both .0), passed-so 1 (x % 256) (both .1)))
         (λ e. passed-so (suc n) x (joined (passed-says n (x / 256) (and-first high low e)) (passed-says 1 (x % 256) (and-second high low e))))
 
-module _ (last : ℕ) (letter : (last ≡ byte "F") ⊎ (last ≡ byte "Z")) where
+module _ (last : ℕ) (letter : Last last) where
   at-once : (n x : ℕ) → areUpTo last n x ≡ allOf (upTo last) (bytesOf n x)
   unfolding areUpTo bytesAll digits allOf
   at-once zero x = rw (and-zero-r x, and-zero-r (odd last 0 x))

@@ -21,10 +21,10 @@ const FROM_A: u64 = 0x3f3f_3f3f_3f3f_3f3f;
 // What repeats a byte eight times.
 const EIGHT: u64 = 0x0101_0101_0101_0101;
 
-// Whether the eight bytes of x are all of 0-9 or from A to the last letter, F or Z. An odd number of the four top bits is set exactly for these characters.
+// Whether the eight bytes of x are all of 0-9 or from A to the last letter: F, Z, or none, which is the character before A. An odd number of the four top bits is set exactly for these characters.
 // A sum carries into the next byte only from one whose own top bit is set, which is refused by itself.
 fn are_digits_or_capitals(last: u8, x: u64) -> bool
-    requires { ⌜ (eqb last 70 || eqb last 90) ≡ true ⌝ }
+    requires { ⌜ (eqb last 64 || eqb last 70 || eqb last 90) ≡ true ⌝ }
     ensures { λ r. ⌜ r ≡ allOf (λ (c : ℕ). isDigit c || between 65 last c) (bytesOf 8 x) ⌝ }
 {
     let past = (127 - last) as u64 * EIGHT;
@@ -33,6 +33,13 @@ fn are_digits_or_capitals(last: u8, x: u64) -> bool
         ^ wrapping_add_u64(x, FROM_A)
         ^ wrapping_add_u64(x, past);
     y & TOP == TOP && x & TOP == 0
+}
+
+// Whether the eight bytes of x are all of 0-9.
+pub fn are_digits(x: u64) -> bool
+    ensures { λ r. ⌜ r ≡ allOf isDigit (bytesOf 8 x) ⌝ }
+{
+    are_digits_or_capitals(b'@', x)
 }
 
 // Whether the eight bytes of x are all of A-Z 0-9.

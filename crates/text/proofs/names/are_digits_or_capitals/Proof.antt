@@ -1,20 +1,20 @@
 -- `text::names::are_digits_or_capitals` meets its contract: where no top bit is set no sum overflows, since each byte is below 128.
 -- Assumes nothing.
 use mathlib.Core.Path.{_≡_, ap₂, _∙_}
-use mathlib.Core.Logic.{_⊎_, inl, inr}
+use mathlib.Core.Logic.{inl, inr}
 use Prim.Native.Nat.{ℕ, _+_, _-_, _≤_}
 use native.Mathlib.Omega.{arith}
 use borrow.Author.Needs.{needs}
 use borrow.Author.Tests.{ne-eqb}
 use lib.Bits.{bitXor}
-use Rattle.text.specs.Ascii.{byte}
-use Rattle.text.proofs.AtOnce.{bytesAll, tops, odd, last-letter, all-set, not-all-set, none-above}
+use Rattle.text.proofs.AtOnce.{bytesAll, tops, odd, Last, last-letter, all-set, not-all-set, none-above}
 use Rattle.text.proofs.names.are_digits_or_capitals.Statement.{statement}
 use Rattle.text.proofs.names.are_digits_or_capitals.Tie as tie
 
-ascii : (last : ℕ) → (last ≡ byte "F") ⊎ (last ≡ byte "Z") → last ≤ 127
+ascii : (last : ℕ) → Last last → last ≤ 127
 ascii last (inl e) = omega arith
-ascii last (inr e) = omega arith
+ascii last (inr (inl e)) = omega arith
+ascii last (inr (inr e)) = omega arith
 
 sub-past : tie.Need-sub-past
 sub-past c = ascii (c .args .last) (last-letter _ (c .pre))
