@@ -1,42 +1,34 @@
 -- A step by its head: the answer that it has, or what the line gives, which lies within the file.
 -- Assumes nothing.
-use mathlib.Core.Path.{_≡_, refl}
-use mathlib.Core.Bool.{Bool, true, false, not}
+use mathlib.Core.Path.{_≡_}
 use mathlib.Core.List.{List}
 use Prim.Native.Nat.{ℕ, _+_, _-_, _≤_}
 use native.Mathlib.Omega.{arith}
-use borrow.Author.Tests.{leb-true, ltb-true}
+use borrow.Author.Tests.{leb-false, le-ltb}
 use lib.Dec.{leb, ltb}
 use lib.ListN.{length, take, drop}
 use Rattle.bytes.proofs.Every.{either}
-use Rattle.forms.specs.Order.{demand}
 use Rattle.cell_permit.specs.declared.Line.{Line}
-use Rattle.permit_file.specs.File.{cursor, lineEnds, endsAt, onward, stepBy}
-use Rattle.permit_file.specs.NextLine.{nextLine}
+use Rattle.file_lines.specs.Lines.{lineEnds, endsAt, lineFound}
+use Rattle.file_lines.specs.declared.LineFound.{LineFound}
+use Rattle.file_lines.specs.declared.LineFound.the-variants as found
+use Rattle.file_lines.proofs.LineEnds.{begins-first}
+use Rattle.file_lines.proofs.PartEnds.{line-between, no-end-beyond}
+use Rattle.file_lines.proofs.Walks as walks
+use Rattle.permit_file.specs.File.{cursor, onward, stepBy}
+use Rattle.permit_file.specs.NextLine.{nextOf, nextLine}
 use Rattle.permit_file.specs.declared.Next.{Next}
 use Rattle.permit_file.specs.declared.Next.the-variants as next
 use Rattle.permit_file.specs.declared.Step.{Step}
-use Rattle.permit_file.proofs.Ends.{line-between}
-use Rattle.permit_file.proofs.Lines.{begins-first, next-within}
 
--- the tests that a line has passed
-line-made
-    : (a b c : Bool) (x y z : Step) (n end : ℕ)
-    → demand a (next.Answer x) (demand (not b) (next.Answer y) (demand c (next.Answer z) (next.Line n))) ≡ next.Line end
-    → (a ≡ true) × ((c ≡ true) × (end ≡ n))
-line-made true false true x y z n end made = (refl, (refl, cc))
-line-made true false false x y z n end made = (refl, (cc, cc))
-line-made true true c x y z n end made = (refl, (cc, cc))
-line-made false b c x y z n end made = (cc, (cc, cc))
+line-found : (size place end : ℕ) (f : LineFound) → nextOf size place f ≡ next.Line end → f ≡ found.Line end
+line-found size place end (found.Line n) made = cc
+line-found size place end found.Unended made = cc
+line-found size place end found.End made = cc
 
 module _ (file : List ℕ) (place : ℕ) where
   pub line-bounds : (end : ℕ) → nextLine file place ≡ next.Line end → (place ≤ end) × (end + 2 ≤ length file)
-  unfolding nextLine
-  line-bounds end made =
-      let passed = line-made (leb place (length file)) (endsAt file place) (ltb (lineEnds file place) (length file)) _ _ _ (lineEnds file place) end made in
-      let first = begins-first file place in
-      let fits = next-within file place (leb-true place (length file) (passed .0)) (ltb-true (lineEnds file place) (length file) (passed .1 .0)) in
-      (omega (arith, passed .1 .1), omega (arith, passed .1 .1))
+  line-bounds end made = walks.line-bounds file place end (line-found (length file) place end (lineFound file place) made) .1
 
   module _ (read : List ℕ → Line) where
     -- what a step gives, by its head
@@ -45,7 +37,7 @@ module _ (file : List ℕ) (place : ℕ) where
     from (next.Answer s) = s
 
     by-next : stepBy read file place ≡ from (nextLine file place)
-    unfolding stepBy nextLine
+    unfolding stepBy lineFound
     by-next =
         either (leb place (length file))
         (λ within.
@@ -55,7 +47,9 @@ module _ (file : List ℕ) (place : ℕ) where
         either (ltb (lineEnds file place) (length file))
         (λ closed. rw (within, on, closed, line-between file place))
         (λ runs. rw (within, on, runs))))
-        (λ past. rw past)
+        (λ past.
+        let beyond = leb-false place (length file) past in
+        rw (past, no-end-beyond file place beyond, le-ltb (lineEnds file place) (length file) (omega (arith, begins-first file place))))
 
     pub answered : (s : Step) → nextLine file place ≡ next.Answer s → s ≡ stepBy read file place
     answered s made = rw (by-next, made)

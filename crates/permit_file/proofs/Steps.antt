@@ -1,26 +1,24 @@
 -- Places rise until the end, which stays and is reached within as many steps as the file has bytes.
 -- Assumes nothing.
 use mathlib.Core.Path.{_≡_, refl}
-use mathlib.Core.Bool.{Bool, true, false}
+use mathlib.Core.Bool.{true, false}
 use mathlib.Core.List.{List}
 use Prim.Native.Nat.{ℕ, zero, suc, _+_, _-_, _≤_, _<_}
 use native.Mathlib.Omega.{arith}
 use borrow.Author.Tests.{le-leb, ltb-true, eq-eqb, ne-eqb}
 use lib.Dec.{leb, ltb}
 use lib.ListN.{length}
-use Rattle.bytes.proofs.Every.{either}
+use Rattle.bytes.proofs.Every.{either, never-both}
 use Rattle.cell_permit.specs.CellPermit.{shipWords}
 use Rattle.cell_permit.specs.Line.{givenNumber}
 use Rattle.cell_permit.specs.declared.Line.{Line}
 use Rattle.cell_permit.specs.declared.Line.the-variants as line
-use Rattle.permit_file.specs.File.{cursor, lineEnds, lineAt, endsAt, onward, stepBy, stepWith, stepOf, isEnd, nextPlace}
+use Rattle.file_lines.specs.Lines.{lineEnds, lineAt, endsAt}
+use Rattle.file_lines.proofs.LineEnds.{begins-first, next-within}
+use Rattle.file_lines.proofs.PartEnds.{ends-with-bytes}
+use Rattle.permit_file.specs.File.{cursor, onward, stepBy, stepWith, stepOf, isEnd, nextPlace}
 use Rattle.permit_file.specs.Steps.{placeAfter, PlacesRise, EndStays, FileEnds}
 use Rattle.permit_file.specs.declared.Step.the-variants.{Record, Refused, End}
-use Rattle.permit_file.proofs.Ends.{ends-with-bytes}
-use Rattle.permit_file.proofs.Lines.{begins-first, next-within}
-
-never-both : (t : Bool) → t ≡ false → t ≡ true → ⊥
-never-both t no-t yes-t = let z : _≡_ {A = ℕ} 0 1 = cc in omega arith
 
 onward-place : (l : Line) (place : ℕ) → nextPlace (onward l (cursor place)) ≡ place
 onward-place (line.Record r) place = refl

@@ -1,19 +1,19 @@
--- A permit file, PERMIT.TXT: its header, its lines, and reading on from a place.
-use mathlib.Core.Bool.{Bool, true, false, cond, not, _&&_, _||_}
-use mathlib.Core.List.{List, [], _∷_}
-use Prim.Native.Nat.{ℕ, suc, _+_}
+-- A permit file, PERMIT.TXT: its header, and reading on from a place.
+use mathlib.Core.Bool.{Bool, true, false, not, _&&_}
+use mathlib.Core.List.{List}
+use Prim.Native.Nat.{ℕ, _+_}
 use lib.Dec.{leb, ltb, eqb}
-use lib.ListN.{length, getD, drop}
-use Rattle.text.specs.Ascii.{byte, ascii}
-use Rattle.text.specs.Characters.{isDigit, decimalNumber}
-use Rattle.text.specs.Texts.{part, allAt, sameText, standsAt}
+use lib.ListN.{length}
+use Rattle.text.specs.Ascii.{ascii}
+use Rattle.text.specs.Texts.{standsAt}
 use Rattle.forms.specs.Order.{demand}
-use Rattle.forms.specs.DateText.{isDateAt}
 use Rattle.cell_permit.specs.CellPermit.{shipWords}
 use Rattle.cell_permit.specs.Line.{readWith, givenNumber, lineNumber}
 use Rattle.cell_permit.specs.Answers.{LineValues, recordValues, noValues}
 use Rattle.cell_permit.specs.declared.Line.{Line}
 use Rattle.cell_permit.specs.declared.Line.the-variants as line
+use Rattle.file_lines.specs.Lines.{lineEnds, lineAt, endsAt}
+use Rattle.file_lines.specs.Dated.{isDated}
 use Rattle.permit_file.specs.declared.Cursor.{Cursor}
 use Rattle.permit_file.specs.declared.Opened.{Opened}
 use Rattle.permit_file.specs.declared.Opened.the-variants as opened
@@ -23,31 +23,6 @@ use Rattle.permit_file.specs.declared.Step.the-variants.{Record, Refused
 -- the cursor at a place
 abbrev pub cursor : ℕ → Cursor
 cursor place = record { place = place }
-
--- two bytes are CR LF
-abbrev pub isLineEnd : ℕ → ℕ → Bool
-isLineEnd first second = eqb first (byte "\r") && eqb second (byte "\n")
-
--- how many bytes stand before the first CR LF; all where there is none
-unfoldable pub lineLength : List ℕ → ℕ
-lineLength [] = 0
-lineLength (c ∷ s) = cond (isLineEnd c (getD s 0 0)) 0 (suc (lineLength s))
-
--- where the line that begins at a place ends: its CR LF, or the file's end
-unfoldable pub lineEnds : List ℕ → ℕ → ℕ
-lineEnds file place = place + lineLength (drop place file)
-
--- the line that begins at a place, without its CR LF
-unfoldable pub lineAt : List ℕ → ℕ → List ℕ
-lineAt file place = part (lineLength (drop place file)) file place
-
--- the line that the ENC lines end at
-abbrev pub ecs : List ℕ
-ecs = ascii ":ECS"
-
--- nothing is read at a place: the file ends there, or :ECS stands there, before CR LF or the file's end
-unfoldable pub endsAt : List ℕ → ℕ → Bool
-endsAt file place = eqb place (length file) || sameText (lineAt file place) ecs
 
 -- what a line's answer gives: it, with the next cursor
 abbrev pub onward : Line → Cursor → Step
@@ -72,24 +47,13 @@ stepOf hw today days file place =
     demand (eqb (givenNumber hw today days) 0) (Refused (givenNumber hw today days) (cursor place))
     (stepWith (shipWords hw) today days file place)
 
--- what stands before the date
-abbrev pub headerStart : List ℕ
-headerStart = ascii ":DATE "
-
 -- what follows the time
 abbrev pub headerRest : List ℕ
 headerRest = ascii "\r\n:VERSION 2\r\n:ENC\r\n"
 
--- the two digits at a place are a number below a limit
-unfoldable pub isBelow : ℕ → List ℕ → ℕ → Bool
-isBelow limit file at = allAt isDigit 2 file at && ltb (decimalNumber (part 2 file at)) limit
-
 -- the header: `:DATE YYYYMMDD HH:MM`, a date and a time from 00:00 to 23:59, `:VERSION 2` and `:ENC`, each ended by CR LF
 unfoldable pub isHeader : List ℕ → Bool
-isHeader file =
-    standsAt headerStart file 0 && isDateAt file 6
-    && eqb (getD file 14 0) (byte " ") && isBelow 24 file 15 && eqb (getD file 17 0) (byte ":") && isBelow 60 file 18
-    && standsAt headerRest file 20
+isHeader file = isDated file && standsAt headerRest file 20
 
 -- the place of the first line after `:ENC`: the header has 40 bytes
 abbrev pub firstPlace : ℕ

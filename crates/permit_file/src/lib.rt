@@ -1,12 +1,9 @@
 // A permit file, PERMIT.TXT: opening it, and reading it line by line.
 ghost use mathlib.Core.Path.{_≡_};
-ghost use Prim.Native.Nat.{_≤_};
-ghost use lib.ListN.{length};
-ghost use Rattle.permit_file.specs.File.{lineEnds, endsAt, onward, stepWith, stepOf, openOf, openNumber};
+ghost use Rattle.permit_file.specs.File.{isHeader, onward, stepWith, stepOf, openOf, openNumber};
 ghost use Rattle.permit_file.specs.NextLine.{nextLine};
 use cell_permit::Line;
-
-mod header; // header.rt: the header's tests
+use file_lines::LineFound;
 
 // The reader's place in a file.
 pub struct Cursor {
@@ -52,71 +49,36 @@ fn onward(line: Line, next: Cursor) -> Step
     }
 }
 
-// Where the line that begins at a place ends: its CR LF, or the file's end. A byte beyond CR is passed together with the one before it.
-fn line_ends(file: &[u8], place: usize) -> usize
-    requires { ⌜ place ≤ length (now file) ⌝ }
-    ensures { λ r. ⌜ r ≡ lineEnds (now (file .entry)) place ⌝ }
+// Whether a file begins with a header.
+fn is_header(file: &[u8]) -> bool
+    ensures { λ r. ⌜ r ≡ isHeader (now (file .entry)) ⌝ }
 {
-    let mut i = place;
-    while 1 < file.len() - i {
-        if b'\r' < file[i + 1] {
-            i += 2;
-        } else {
-            if file[i] == b'\r' {
-                if file[i + 1] == b'\n' {
-                    return i;
-                }
-            }
-            i += 1;
-        }
-    }
-    file.len()
-}
-
-// Whether nothing is read at a place, whose line ends at end.
-fn ends_at(file: &[u8], place: usize, end: usize) -> bool
-    requires { ⌜ end ≡ lineEnds (now file) place ⌝ }
-    ensures { λ r. ⌜ r ≡ endsAt (now (file .entry)) place ⌝ }
-{
-    if place == file.len() {
-        return true;
-    }
-    if end - place != 4 {
-        return false;
-    }
-    text::reading::stands_at(b":ECS", file, place)
+    file_lines::is_dated(file) && text::reading::stands_at(b"\r\n:VERSION 2\r\n:ENC\r\n", file, 20)
 }
 
 // Opening a file reads its header: the refusal, 12 and then 11, or the place of the first line after :ENC.
 pub fn open(file: &[u8]) -> Opened
     ensures { λ r. ⌜ r ≡ openOf (now (file .entry)) ⌝ }
 {
-    if !header::is_header(file) {
+    if !is_header(file) {
         return Opened::Refused(12);
     }
     let place: usize = 40;
-    if ends_at(file, place, line_ends(file, place)) {
-        return Opened::Refused(11);
+    match file_lines::line_at(file, place) {
+        LineFound::End => Opened::Refused(11),
+        _ => Opened::At(Cursor { place }),
     }
-    Opened::At(Cursor { place })
 }
 
 // Where the next line is, or what a step answers that reads none: no key is needed for it.
 fn next_line(file: &[u8], place: usize) -> Next
     ensures { λ r. ⌜ r ≡ nextLine (now (file .entry)) place ⌝ }
 {
-    let size = file.len();
-    if size < place {
-        return Next::Answer(Step::Refused(12, Cursor { place: size }));
+    match file_lines::line_at(file, place) {
+        LineFound::Line(end) => Next::Line(end),
+        LineFound::Unended => Next::Answer(Step::Refused(12, Cursor { place: file.len() })),
+        LineFound::End => Next::Answer(Step::End(Cursor { place })),
     }
-    let end = line_ends(file, place);
-    if ends_at(file, place, end) {
-        return Next::Answer(Step::End(Cursor { place }));
-    }
-    if end == size {
-        return Next::Answer(Step::Refused(12, Cursor { place: size }));
-    }
-    Next::Line(end)
 }
 
 impl Cursor {

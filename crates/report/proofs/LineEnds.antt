@@ -12,7 +12,7 @@ use lib.Dec.{eqb}
 use lib.ListN.{length, getD, drop, length-drop}
 use lib.Seq.{drop-cons, drop-drop, getD-drop}
 use Rattle.bytes.proofs.Every.{and-first, and-second, either}
-use Rattle.permit_file.specs.File.{lineLength, lineEnds}
+use Rattle.file_lines.specs.Lines.{lineLength, lineEnds}
 use Rattle.report.specs.LookThrough.{lineEndsIn}
 use Rattle.report.specs.Turns.{oneIf}
 

@@ -24,7 +24,8 @@ use Rattle.cell_permit.specs.CellPermit.{checkOf}
 use Rattle.cell_permit.specs.Line.{lineNumber, readWith, checked, recordOf, keyUnder, partsOf, isLine}
 use Rattle.cell_permit.specs.declared.Line.{Line}
 use Rattle.cell_permit.specs.declared.Line.the-variants as line
-use Rattle.permit_file.specs.File.{cursor, stepBy, onward, lineEnds, lineAt, endsAt, firstPlace, isEnd, nextPlace}
+use Rattle.file_lines.specs.Lines.{lineEnds, lineAt, endsAt}
+use Rattle.permit_file.specs.File.{cursor, stepBy, onward, firstPlace, isEnd, nextPlace}
 use Rattle.permit_file.specs.declared.Cursor.{Cursor}
 use Rattle.permit_file.specs.declared.Step.{Step}
 use Rattle.permit_file.specs.declared.Step.the-variants.{Record, Refused, End}

@@ -15,7 +15,8 @@ use Rattle.cell_permit.specs.CellPermit.{shipWords, lineEnd}
 use Rattle.cell_permit.specs.Line.{readWith, givenNumber, lineNumber}
 use Rattle.cell_permit.specs.declared.Line.{Line}
 use Rattle.cell_permit.specs.declared.Line.the-variants as line
-use Rattle.permit_file.specs.File.{isLineEnd, stepBy, firstPlace, openOf, openNumber}
+use Rattle.file_lines.specs.Lines.{isLineEnd}
+use Rattle.permit_file.specs.File.{stepBy, firstPlace, openOf, openNumber}
 use Rattle.permit_file.specs.declared.Step.{Step}
 use Rattle.permit_file.specs.declared.Step.the-variants as step
 

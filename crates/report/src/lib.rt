@@ -4,7 +4,7 @@ ghost use Prim.Native.Nat.{_≤_};
 ghost use lib.ListN.{length};
 ghost use Rattle.text.specs.Texts.{placed};
 ghost use Rattle.forms.specs.Output.{writtenOf, lentAfter};
-ghost use Rattle.permit_file.specs.File.{isLineEnd};
+ghost use Rattle.file_lines.specs.Lines.{isLineEnd};
 ghost use Rattle.report.specs.LookThrough.{startNumber, report, lineEndsIn, roomFor, reported};
 ghost use Rattle.report.specs.Turns.{oneIf};
 use forms::Written;

@@ -1,4 +1,4 @@
--- `permit_file::header::is_header` meets its contract: its tests in their order.
+-- `file_lines::is_dated` meets its contract: its tests in their order.
 -- Assumes nothing.
 use mathlib.Core.Path.{_≡_, sym, _∙_}
 use mathlib.Core.Bool.{true}
@@ -6,11 +6,11 @@ use mathlib.Core.List.{List}
 use Prim.Native.Nat.{ℕ}
 use borrow.Author.Tests.{not-true, not-false, eq-eqb, ne-eqb}
 use Rattle.forms.proofs.DateTexts.{date-right, date-wrong}
-use Rattle.permit_file.specs.File.{isHeader}
-use Rattle.permit_file.proofs.Headers.{toStart, toDate, toBlank, toHour, toColon, toMinute}
+use Rattle.file_lines.specs.Dated.{isDated}
+use Rattle.file_lines.proofs.DatedFiles.{toStart, toDate, toBlank, toHour, toColon}
 use borrow.Author.Needs.{needs}
-use Rattle.permit_file.proofs.header.is_header.Statement.{statement}
-use Rattle.permit_file.proofs.header.is_header.Tie as tie
+use Rattle.file_lines.proofs.is_dated.Statement.{statement}
+use Rattle.file_lines.proofs.is_dated.Tie as tie
 
 abbrev file1 : tie.Else1 → List ℕ
 file1 x = x .before .before .before .before .args .file .now
@@ -26,9 +26,6 @@ file4 x = file3 (x .before .before)
 
 abbrev file5 : tie.Else4 → List ℕ
 file5 x = file4 (x .before .before)
-
-abbrev file6 : tie.Else5 → List ℕ
-file6 x = file5 (x .before .before)
 
 start-passed : (x : tie.Else1) → toStart (file1 x) ≡ true
 start-passed x = sym (x .before .stands-at .ensures) ∙ not-false _ (x .if1 .left)
@@ -47,9 +44,6 @@ hour-passed x = rw (blank-passed (x .before .before)) (sym (x .before .is-below 
 colon-passed : (x : tie.Else4) → toColon (file5 x) ≡ true
 colon-passed x = rw (hour-passed (x .before .before)) (eq-eqb _ 58 (sym (x .before .byte-at2 .ensures) ∙ x .if4 .left))
 
-minute-passed : (x : tie.Else5) → toMinute (file6 x) ≡ true
-minute-passed x = rw (colon-passed (x .before .before)) (sym (x .before .is-below2 .ensures) ∙ not-false _ (x .if5 .left))
-
 slice-aggregate-stands-at : tie.Need-slice-aggregate-stands-at
 slice-aggregate-stands-at c = search needs
 
@@ -57,7 +51,7 @@ stands-at-requires : tie.Need-stands-at-requires
 stands-at-requires c κs = search needs
 
 returns : tie.Need-returns
-unfolding isHeader
+unfolding isDated
 returns c = rw (sym (c .before .stands-at .ensures) ∙ not-true _ (c .if1 .taken))
 
 date-at-requires : tie.Need-date-at-requires
@@ -70,7 +64,7 @@ enum-told-2 : tie.Need-enum-told-2
 enum-told-2 c = search needs
 
 returns-2 : tie.Need-returns-2
-unfolding isHeader
+unfolding isDated
 returns-2 c =
     let read = c .before .before in
     rw (start-passed (read .before), date-wrong (file1 (read .before)) 6 (sym (read .date-at .ensures) ∙ c .enum-told2 .given .1))
@@ -79,42 +73,32 @@ byte-at-requires : tie.Need-byte-at-requires
 byte-at-requires c κs = search needs
 
 returns-3 : tie.Need-returns-3
-unfolding isHeader
+unfolding isDated
 returns-3 c = rw (date-passed (c .before .before), ne-eqb _ 32 (λ e. c .if2 .taken (c .before .byte-at .ensures ∙ e)))
 
 is-below-requires : tie.Need-is-below-requires
 is-below-requires c κs = search needs
 
 returns-4 : tie.Need-returns-4
-unfolding isHeader
+unfolding isDated
 returns-4 c = rw (blank-passed (c .before .before), sym (c .before .is-below .ensures) ∙ not-true _ (c .if3 .taken))
 
 byte-at-requires-2 : tie.Need-byte-at-requires-2
 byte-at-requires-2 c κs = search needs
 
 returns-5 : tie.Need-returns-5
-unfolding isHeader
+unfolding isDated
 returns-5 c = rw (hour-passed (c .before .before), ne-eqb _ 58 (λ e. c .if4 .taken (c .before .byte-at2 .ensures ∙ e)))
 
 is-below-requires-2 : tie.Need-is-below-requires-2
 is-below-requires-2 c κs = search needs
 
 returns-6 : tie.Need-returns-6
-unfolding isHeader
-returns-6 c = rw (colon-passed (c .before .before), sym (c .before .is-below2 .ensures) ∙ not-true _ (c .if5 .taken))
+unfolding isDated
+returns-6 c = rw (colon-passed (c .before)) (c .is-below2 .ensures)
 
-slice-aggregate-stands-at-2 : tie.Need-slice-aggregate-stands-at-2
-slice-aggregate-stands-at-2 c = search needs
-
-stands-at-requires-2 : tie.Need-stands-at-requires-2
-stands-at-requires-2 c κs = search needs
-
-returns-7 : tie.Need-returns-7
-unfolding isHeader
-returns-7 c = rw (minute-passed (c .before .before)) (c .stands-at2 .ensures)
-
-pub is-header-spec : {M : Type 1} → statement M
-is-header-spec =
+pub is-dated-spec : {M : Type 1} → statement M
+is-dated-spec =
     tie.close
     (tie.spec
     slice-aggregate-stands-at
@@ -131,7 +115,4 @@ is-header-spec =
     byte-at-requires-2
     returns-5
     is-below-requires-2
-    returns-6
-    slice-aggregate-stands-at-2
-    stands-at-requires-2
-    returns-7)
+    returns-6)

@@ -1,21 +1,24 @@
--- `permit_file::line_ends` meets its contract. The invariant: the line that begins at i ends where the one at the place ends.
+-- `file_lines::line_ends` meets its contract. The invariant: the line that begins at i ends where the one at the place ends.
 -- Assumes nothing.
 use mathlib.Core.Path.{_≡_, sym, _∙_}
 use mathlib.Core.Logic.{⊎-elim}
 use Prim.Native.Nat.{_+_, _-_, _≤_, _<_}
 use native.Mathlib.Omega.{arith}
 use lib.ListN.{length, getD}
-use Rattle.permit_file.specs.File.{lineEnds}
-use Rattle.permit_file.proofs.Lines.{ends-here, goes-on, goes-on-twice, ends-with-file}
+use Rattle.file_lines.specs.Lines.{lineEnds}
+use Rattle.file_lines.proofs.LineEnds.{ends-here, goes-on, goes-on-twice, ends-with-file}
 use borrow.Author.Needs.{needs}
-use Rattle.permit_file.proofs.line_ends.Statement.{statement}
-use Rattle.permit_file.proofs.line_ends.Tie as tie
+use Rattle.file_lines.proofs.line_ends.Statement.{statement}
+use Rattle.file_lines.proofs.line_ends.Tie as tie
 
 abbrev Inv-loop : tie.InvT-loop
 Inv-loop file place i₀ i = (i ≤ length file) × (lineEnds file i ≡ lineEnds file place)
 
 abbrev μ-loop : tie.MeasureT-loop
 μ-loop file place i₀ i = length file - i
+
+pass-words-requires : tie.Need-pass-words-requires Inv-loop μ-loop
+pass-words-requires c κs = search needs
 
 loop-holds : tie.Need-loop-holds Inv-loop μ-loop
 loop-holds c = search needs
@@ -37,7 +40,7 @@ loop-less c = search needs
 
 loop-again : tie.Need-loop-again Inv-loop μ-loop
 loop-again c =
-    let s = c .before .before .before .before .args .file .now in
+    let s = c .before .before .before .before .before .before .args .file .now in
     let now = c .before .before .before .loop in
     let h : now .i + 1 < length s = omega arith in (
       omega arith,
@@ -57,7 +60,7 @@ returns : tie.Need-returns Inv-loop μ-loop
 returns c =
     let two = c .before .before in
     let now = two .before .before .before .before .before .loop in
-    let s = two .before .before .before .before .before .before .args .file .now in
+    let s = two .before .before .before .before .before .before .before .before .args .file .now in
     sym (ends-here s (now .i) (omega arith) (two .if2 .taken) (c .if3 .taken)) ∙ now .inv .1
 
 add-i-2 : tie.Need-add-i-2 Inv-loop μ-loop
@@ -68,7 +71,7 @@ loop-less-2 c = search needs
 
 loop-again-2 : tie.Need-loop-again-2 Inv-loop μ-loop
 loop-again-2 c =
-    let s = c .before .before .before .before .before .before .args .file .now in
+    let s = c .before .before .before .before .before .before .before .before .args .file .now in
     let now = c .before .before .before .before .before .loop in
     let never : getD s (now .i) 0 ≡ 13 → getD s (now .i + 1) 0 ≡ 10 → ⊥ = λ cr lf. ⊎-elim (λ w. w .2 .left lf) (λ w. w .left cr) (c .if2 .came) in (
       omega arith,
@@ -77,7 +80,7 @@ loop-again-2 c =
 
 returns-2 : tie.Need-returns-2 Inv-loop μ-loop
 returns-2 c =
-    let s = c .before .before .args .file .now in
+    let s = c .before .before .before .before .args .file .now in
     let now = c .before .loop in
     sym (ends-with-file s (now .i) (now .inv .0) (omega arith)) ∙ now .inv .1
 
@@ -87,6 +90,7 @@ line-ends-spec =
     (tie.spec
     Inv-loop
     μ-loop
+    pass-words-requires
     loop-holds
     sub-loop
     add-if1

@@ -3,16 +3,16 @@
 use mathlib.Core.Path.{_≡_, ap, sym, _∙_}
 use mathlib.Core.Bool.{true, false}
 use mathlib.Core.List.{List}
-use Prim.Native.Nat.{ℕ, _-_}
+use Prim.Native.Nat.{ℕ, _-_, _≤_, _<_}
 use native.Mathlib.Omega.{arith}
 use borrow.Author.Tests.{eq-eqb, ne-eqb}
-use lib.ListN.{length, drop, take}
+use lib.ListN.{length, drop, take, drop-of-length-le}
 use lib.Seq.{length-take-le}
 use Rattle.bytes.proofs.Every.{either}
 use Rattle.text.specs.Texts.{sameText, standsAt}
 use Rattle.text.proofs.SameTexts.{same-true}
-use Rattle.permit_file.specs.File.{lineLength, lineEnds, lineAt, ecs, endsAt}
-use Rattle.permit_file.proofs.Lines.{line-within}
+use Rattle.file_lines.specs.Lines.{lineLength, lineEnds, lineAt, ecs, endsAt}
+use Rattle.file_lines.proofs.LineEnds.{line-within}
 
 module _ (file : List ℕ) (place : ℕ) where
   end-less-place : lineEnds file place - place ≡ lineLength (drop place file)
@@ -27,6 +27,12 @@ module _ (file : List ℕ) (place : ℕ) where
   line-size : length (lineAt file place) ≡ lineEnds file place - place
   unfolding lineAt
   line-size = length-take-le (lineLength (drop place file)) (drop place file) (line-within (drop place file)) ∙ sym end-less-place
+
+  pub no-end-beyond : length file < place → endsAt file place ≡ false
+  unfolding endsAt lineAt lineLength sameText
+  no-end-beyond past =
+      let h : length file ≤ place = omega arith in
+      rw (ne-eqb place (length file) (λ e. omega arith), drop-of-length-le file h)
 
   pub ends-with-bytes : place ≡ length file → endsAt file place ≡ true
   unfolding endsAt

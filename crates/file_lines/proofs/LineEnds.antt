@@ -12,7 +12,7 @@ use lib.Dec.{ltb, eqb}
 use lib.ListN.{length, getD, drop, length-drop}
 use lib.Seq.{drop-cons, getD-drop}
 use Rattle.bytes.proofs.Every.{and-first, and-second, either}
-use Rattle.permit_file.specs.File.{lineLength, lineEnds}
+use Rattle.file_lines.specs.Lines.{lineLength, lineEnds}
 
 pub line-within : (s : List ℕ) → lineLength s ≤ length s
 unfolding lineLength

@@ -1,14 +1,14 @@
--- `permit_file::ends_at` meets its contract.
+-- `file_lines::ends_at` meets its contract.
 -- Assumes nothing.
 use mathlib.Core.Path.{ap, sym, _∙_}
 use Prim.Native.Nat.{ℕ, _-_, _≤_}
 use native.Mathlib.Omega.{arith}
-use Rattle.permit_file.specs.File.{lineEnds}
-use Rattle.permit_file.proofs.Lines.{begins-first}
-use Rattle.permit_file.proofs.Ends.{ends-with-bytes, other-length, four-bytes}
+use Rattle.file_lines.specs.Lines.{lineEnds}
+use Rattle.file_lines.proofs.LineEnds.{begins-first}
+use Rattle.file_lines.proofs.PartEnds.{ends-with-bytes, other-length, four-bytes}
 use borrow.Author.Needs.{needs}
-use Rattle.permit_file.proofs.ends_at.Statement.{statement}
-use Rattle.permit_file.proofs.ends_at.Tie as tie
+use Rattle.file_lines.proofs.ends_at.Statement.{statement}
+use Rattle.file_lines.proofs.ends_at.Tie as tie
 
 returns : tie.Need-returns
 returns c = sym (ends-with-bytes (c .before .before .args .file .now) (c .before .before .args .place) (c .if1 .taken))

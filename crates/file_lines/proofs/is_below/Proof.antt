@@ -1,10 +1,10 @@
--- `permit_file::header::is_below` meets its contract.
+-- `file_lines::is_below` meets its contract.
 -- Assumes nothing.
 use mathlib.Core.Path.{sym, _∙_}
-use Rattle.permit_file.proofs.Headers.{below-number, below-wrong}
+use Rattle.file_lines.proofs.DatedFiles.{below-number, below-wrong}
 use borrow.Author.Needs.{needs}
-use Rattle.permit_file.proofs.header.is_below.Statement.{statement}
-use Rattle.permit_file.proofs.header.is_below.Tie as tie
+use Rattle.file_lines.proofs.is_below.Statement.{statement}
+use Rattle.file_lines.proofs.is_below.Tie as tie
 
 decimal-at-requires : tie.Need-decimal-at-requires
 decimal-at-requires c κs = search needs

@@ -1,0 +1,4 @@
+pub mod Lines
+pub mod EncPart
+pub mod Dated
+pub mod Walk
