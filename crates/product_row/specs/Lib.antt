@@ -1,0 +1,4 @@
+pub mod Fields
+pub mod Row
+pub mod Taking
+pub mod Starts
