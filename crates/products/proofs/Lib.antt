@@ -1,0 +1,9 @@
+pub mod RowsPassed
+pub mod InOrder
+pub mod HeaderLines
+pub mod Headers
+pub mod Standings
+pub mod Answered
+pub mod Depending
+pub mod PassedOver
+pub mod Seconds

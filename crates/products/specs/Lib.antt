@@ -1,0 +1,4 @@
+pub mod Listing
+pub mod Answers
+pub mod Promises
+pub mod Reading
