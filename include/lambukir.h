@@ -1,8 +1,8 @@
 /* lambukir.h
 
-   Lambukir for C: S-63 user permits, cell permits and PERMIT.TXT files, with
-   the cipher and the checksum that they are made of, and the book of cell keys
-   that sixteen agents share.
+   Lambukir for C: S-63 user permits, cell permits, PERMIT.TXT files and product
+   lists (PRODUCTS.TXT), with the cipher and the checksum that permits are made
+   of, and the book of cell keys that sixteen agents share.
 
    Link with liblambukir.a. It needs the C library and nothing else.
 
@@ -35,6 +35,7 @@
      cell name        eight of A-Z 0-9
      level            0 subscription, 1 single purchase
      edition          1 to 999
+     update           0 to 999
      warning days     1 to 90
      tenant           0 to 15
 
@@ -45,7 +46,7 @@
 
      0    done; or a record, and its permit is current
      11   the file has a good header and no line in its ENC part
-     12   line, header or place of a wrong shape, or the expiry is no date
+     12   line, row, header or place of a wrong shape, or a date in it is none
      13   the check part is wrong for this HW_ID
      14   today is no date
      15   a record, and its permit has expired
@@ -53,6 +54,7 @@
      18   the HW_ID, given or deciphered from a user permit, is none
      20   a record, and its permit expires soon
      21   the check part is right, but a key is wrongly padded
+     27   a cell, and the ship is behind the product list with it
      101  the book is damaged, or not 12,389 bytes long
      102  the tenant is above 15
      103  another given value is out of its range; each function says which
@@ -62,15 +64,17 @@
      107  the M_ID is not in the register
      108  out is too short: less than 28 bytes (user permit) or 76 (line)
      109  the register is damaged
+     110  a cell has two rows in the product list
 
-   0, 15 and 20 are success. Each other number is a refusal: every lent byte is
-   as it was, and every field of the answer but number (and, for a file's line,
-   next) is 0. Where there is more than one reason to refuse, the number is the
-   first of the order that stands with the function.
+   0, 15, 20 and 27 are success. Each other number is a refusal: every lent byte
+   is as it was, and every field of the answer but number (and, for a file's
+   line, next) is 0. Where there is more than one reason to refuse, the number
+   is the first of the order that stands with the function.
 
-   Examples: sample/desk.c beside the sources is a short program that keeps a
-   book. Here we make a user permit, and read a file to its end. It
-   prints 73871727080876A07E450C043031, and then 20 20000830.
+   Examples: of the short programs beside the sources, sample/desk.c keeps a
+   book, and sample/standing.c holds a ship's cells against a product list. Here
+   we make a user permit, and read a file to its end. It prints
+   73871727080876A07E450C043031, and then 20 20000830.
 
      #include <inttypes.h>
      #include <lambukir.h>
@@ -270,6 +274,79 @@ typedef struct {
 lambukir_file_line
 lambukir_read_file_line(uint64_t hw_id, uint32_t today, uint32_t days,
                         const uint8_t *file, size_t file_length, size_t place);
+
+/* Product lists
+
+   A product list, PRODUCTS.TXT, tells for each cell of a service the latest
+   edition and update. It is a slice that holds all of the file. Its lines end
+   with CR LF; a CR or LF alone does not end a line, and is in no good one.
+
+     :DATE YYYYMMDD HH:MM   or HH:MM:SS; a date, and 00:00 to 23:59, :00 to :59
+     :VERSION 2             or any other of 1 to 99
+     :CONTENT FULL          or PARTIAL, which changes no answer
+     :ENC
+     ..                     the rows, or none
+     :ECS                   or the file ends here
+
+   :ECS may be ended by the file, too. What follows its line is not looked at.
+   Nothing else is taken: no other blank in the header, no empty line, no row
+   that CR LF does not end.
+
+   A row is 16 to 36 fields with commas between:
+
+     name                   eight of A-Z 0-9, then .000
+     base cell issue date   a date, YYYYMMDD
+     edition                0 to 999; 0 is a cancelled cell
+     date of the update     a date; this and every later field may be empty
+     latest update          0 to 999; empty means 0
+     file size              1 to 999999
+     4 limits               each one to three digits, with - before them or not,
+                            and with . and more digits after them or not
+     0 to 20 coordinates    of the coverage, likewise; any number of them
+     compression            0 to 99
+     encryption             0 to 99
+     base cell update       one to three digits
+     previous update        one to three digits: the previous edition's last
+     base cell location     B or U and 1 to 99, with M, 1 to 99 and ; before it
+                            or not: B3, M1;U12
+     replacements           bytes 20 to 7E hex, but no comma
+
+   A number has no leading zero; what is one to three digits may have some. A
+   space does not make a field empty. No field is held against another: an
+   update may lack its date, and a cancelled cell may have any update. */
+
+/* standing:
+
+     0  up to date: the ship has what the list has, or later
+     1  behind: its edition is lower, or the same with a lower update
+     2  cancelled, whatever the ship has
+     3  not listed: the cell has no row between :ENC and :ECS
+
+   number is 27 where the ship is behind, and 0 with the other three. After a
+   refusal standing is 0, so look at number first. */
+typedef struct {
+  uint32_t standing;
+  uint32_t number;
+} lambukir_standing;
+
+/* How a cell of which a ship has an edition and an update stands against the
+   list. update is 0 where the ship has none for that edition.
+
+   Refusals, in this order: 103, name, edition or update is none; 12, the header
+   or a row is not so, wherever the row stands; 110, a name has two rows before
+   :ECS, be it that of another cell.
+
+   A call reads the whole list up to :ECS, and is lent nothing but the list.
+   Where the names do not rise from row to row it needs up to 600 KiB of stack:
+   mind that in threads. A list of 20,000 rows takes some 4 ms where they rise,
+   and some 5 ms in any usual order. One that somebody made to be slow takes up
+   to 20 times as long as one in name order: some 0.1 s. Where the names rise,
+   twice the rows take twice the time, however many they are. Where they do not,
+   a list of more than 32,768 rows is gone through once more for each further
+   32,768, and the worst one takes four times the time for twice the rows. */
+lambukir_standing
+lambukir_product_standing(const uint8_t *list, size_t list_length,
+                          uint64_t name, uint32_t edition, uint32_t update);
 
 /* The book
 

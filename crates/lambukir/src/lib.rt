@@ -5,6 +5,7 @@ ghost use Rattle.lambukir.specs.Blocks.{encipherBlock, decipherBlock};
 
 pub mod books; // books.rt: the shared book
 pub mod files; // files.rt: permit files
+pub mod lists; // lists.rt: product lists
 pub mod permits; // permits.rt: user permits and lines
 
 // A block of eight bytes, and 0; at 103, for a key that has not 4 to 56 bytes, the block is 0.
