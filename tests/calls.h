@@ -161,4 +161,15 @@ static inline lambukir_file_line compare_file_line(uint64_t hw_id, uint32_t toda
     return ours;
 }
 
+static inline lambukir_standing compare_standing(const uint8_t *list, size_t length, uint64_t name, uint32_t edition, uint32_t update)
+{
+    lent l = lend(list, length, random_below(16));
+    lambukir_standing ours = lambukir_product_standing(l.bytes, length, name, edition, update);
+    lambukir_standing theirs = model_product_standing(list, length, name, edition, update);
+    same(ours.number, theirs.number, "%s: number", about);
+    same(ours.standing, theirs.standing, "%s: standing", about);
+    same_kept(&l, "list");
+    return ours;
+}
+
 #endif

@@ -4,21 +4,6 @@
 #define HEADER 40 /* its three lines, CR LF included */
 #define FIRST_LINE 19 /* of the look-through's input, CR LF included */
 
-/* The place of the first CR LF from a place on, or the file's length. */
-static size_t line_end(const uint8_t *file, size_t length, size_t place)
-{
-    while (place + 1 < length) {
-        const uint8_t *cr = memchr(file + place, '\r', length - 1 - place);
-        if (!cr)
-            break;
-        place = (size_t)(cr - file);
-        if (file[place + 1] == '\n')
-            return place;
-        place++;
-    }
-    return length;
-}
-
 /* The file is at its end here: nothing, or :ECS before CR LF or before the file's end. */
 static bool is_end(const uint8_t *file, size_t length, size_t place, size_t end)
 {

@@ -173,6 +173,21 @@ static inline uint32_t refuse_given(uint64_t hw_id, uint32_t today, uint32_t day
     return days < 1 || days > 90 ? 103 : 0;
 }
 
+/* The place of the first CR LF from a place on, or the file's length. */
+static inline size_t line_end(const uint8_t *file, size_t length, size_t place)
+{
+    while (place + 1 < length) {
+        const uint8_t *cr = memchr(file + place, '\r', length - 1 - place);
+        if (!cr)
+            break;
+        place = (size_t)(cr - file);
+        if (file[place + 1] == '\n')
+            return place;
+        place++;
+    }
+    return length;
+}
+
 bool is_register(const uint8_t *reg, size_t length);
 lambukir_user_permit read_by_register(const uint8_t *reg, size_t reg_length, const uint8_t *permit, size_t permit_length); /* of a good register */
 
