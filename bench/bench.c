@@ -8,6 +8,8 @@
      permits       the calls of lambukir.h beside the model's of tests/, see permits.h: to refuse a line is to read one whose last byte is wrong
      book          the calls of lambukir.h beside book.h's, written by hand in C, see desk.h: enter and then withdraw, two calls, in a book with
                    511 records; the others in a full one; judging is asking for a cell that is not there
+     list          a ship's cell against a product list of 20,000 rows, beside products.h's, which sorts the names; against one that was made to be
+                   slow, beside ours in name order; and against one of 10 rows, see service.h
      look-through  the program beside bench/look_through.c, each a process of its own: from before its start until it has ended;
                    both load the C library and nothing else, since OpenSSL and zlib are linked into the C program
 
@@ -21,6 +23,7 @@
 #include "measure.h"
 #include "permits.h"
 #include "probe.h"
+#include "service.h"
 
 #define TEXT 48
 #define TEXTS 64
@@ -124,6 +127,14 @@ int main(void)
     measure("judge a book", our_judged, their_judged, "plain C", 80);
     measure("issue", our_issue, their_issue, "plain C", 20);
     measure("check", our_check, their_check, "plain C", 20);
+    if (!make_services()) {
+        puts("the product lists are read differently: no more is measured");
+        return 1;
+    }
+    measure("list in name order", our_in_order, their_in_order, "plain C", 1);
+    measure("list, shuffled", our_shuffled, their_shuffled, "plain C", 1);
+    measure("list of 10 rows", our_few, their_few, "plain C", 200);
+    measure_slow();
     put_look_through(65000);
     measure("look-through 65000", our_look_through, their_look_through, "plain C", 1);
     put_look_through(0);
