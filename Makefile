@@ -1,6 +1,6 @@
-# make run      prove the look-through and the library, look through the sample PERMIT.TXT, and show the desk at work
+# make run      prove the look-through and the library, look through the sample PERMIT.TXT, show the desk at work and which charts of a ship are behind
 # make test     the whole gate: every proof, then the comparisons with programs of others
-# make bench    our cipher, checksum, permits, book and look-through beside OpenSSL's, zlib's and plain C
+# make bench    our cipher, checksum, permits, book, product list and look-through beside OpenSSL's, zlib's and plain C
 # make lib      target/staticlib/liblambukir.a and target/include/lambukir.h, for C
 # make install  the library, its header and its pkg-config file below PREFIX, or below DESTDIR and PREFIX
 # make help     this list
@@ -11,13 +11,13 @@ LIBRARY = target/staticlib/liblambukir.a
 PROBE = target/staticlib/libprobe.a
 HEADER = target/include/lambukir.h
 PREFIX = /usr/local
-VERSION = 0.4.0
+VERSION = 0.5.0
 
 # rt waits for a whole batch of its jobs: one more than it would take by itself fills the gaps
 export RT_JOBS ?= $(shell n=$$(nproc); echo $$((n < 4 ? n + 1 : 5)))
 
 COMPARISONS = $(basename $(notdir $(shell grep -l run_subjects tests/*.c)))
-MODEL = target/tests/model.o target/tests/model_book.o target/tests/model_file.o
+MODEL = $(addprefix target/tests/,model.o model_book.o model_file.o model_products.o)
 
 # what a crate is made of: its own files and those of all that it uses, and their folders, which tell of a file taken away
 files_of = crates.txt $(foreach crate,$(shell tests/crates $(1)),$(shell find crates/$(crate) -name must-fail -prune -o -print))
@@ -27,11 +27,13 @@ files_of = crates.txt $(foreach crate,$(shell tests/crates $(1)),$(shell find cr
 help:
 	@sed -n '/^$$/q; s/^# //p' Makefile
 
-run: target/packages proved target/sample/desk
+run: target/packages proved target/sample/desk target/sample/standing
 	@printf '\nThe look-through of sample/PERMIT.TXT:\n\n'
 	@sample/look_through
 	@printf '\nThe desk at work:\n\n'
 	@tests/x86-64 target/sample/desk
+	@printf '\nThe charts of a ship, held against sample/PRODUCTS.TXT:\n\n'
+	@tests/x86-64 target/sample/standing sample/PRODUCTS.TXT
 
 test:
 	@tests/run
@@ -47,7 +49,7 @@ install: lib
 	install -m 644 include/lambukir.h '$(DESTDIR)$(PREFIX)/include/lambukir.h'
 	install -m 644 $(LIBRARY) '$(DESTDIR)$(PREFIX)/lib/liblambukir.a'
 	printf '%s\n' 'prefix=$(PREFIX)' 'includedir=$${prefix}/include' 'libdir=$${prefix}/lib' '' \
-		'Name: lambukir' 'Description: S-63 user permits, cell permits, PERMIT.TXT files and the book of cell keys' 'Version: $(VERSION)' \
+		'Name: lambukir' 'Description: S-63 user permits, cell permits, PERMIT.TXT files, product lists and the book of cell keys' 'Version: $(VERSION)' \
 		'Cflags: -I$${includedir}' 'Libs: -L$${libdir} -llambukir' >'$(DESTDIR)$(PREFIX)/lib/pkgconfig/lambukir.pc'
 
 # program and library in one count
@@ -74,7 +76,7 @@ target/packages: tests/packages
 	@mkdir -p $(@D)
 	@touch $@
 
-target/sample/desk: sample/desk.c $(LIBRARY) $(HEADER) | target/packages
+target/sample/%: sample/%.c $(LIBRARY) $(HEADER) | target/packages
 	@mkdir -p $(@D)
 	@$(CC) $(CFLAGS) -Itarget/include -o $@ $< $(LIBRARY)
 
@@ -87,9 +89,9 @@ target/tests/%.o: tests/%.c $(wildcard tests/*.h) $(HEADER) | target/packages
 target/tests/%: tests/%.c $(wildcard tests/*.h) $(MODEL) $(LIBRARY) $(PROBE)
 	$(CC) $(CFLAGS) -Itarget/include -o $@ $< $(MODEL) $(LIBRARY) $(PROBE) -lcrypto -lz
 
-target/bench/bench: bench/bench.c bench/book.c $(wildcard bench/*.h tests/*.h) $(MODEL) $(LIBRARY) $(PROBE)
+target/bench/bench: bench/bench.c bench/book.c bench/products.c $(wildcard bench/*.h tests/*.h) $(MODEL) $(LIBRARY) $(PROBE)
 	mkdir -p $(@D)
-	$(CC) $(CFLAGS) -Itarget/include -Itests -o $@ $< bench/book.c $(MODEL) $(LIBRARY) $(PROBE) -lcrypto -lz
+	$(CC) $(CFLAGS) -Itarget/include -Itests -o $@ $< bench/book.c bench/products.c $(MODEL) $(LIBRARY) $(PROBE) -lcrypto -lz
 
 # with OpenSSL and zlib in it, so that both programs load the C library and nothing else
 target/bench/look_through: bench/look_through.c $(wildcard tests/*.h) $(MODEL) $(HEADER)
