@@ -339,7 +339,8 @@ typedef struct {
    A call reads the whole list up to :ECS, and is lent nothing but the list.
    Where the names do not rise from row to row it needs up to 600 KiB of stack:
    mind that in threads. A list of 20,000 rows takes some 4 ms where they rise,
-   and some 5 ms in any usual order. One that somebody made to be slow takes up
+   and some 5 ms in any usual order, on the one machine where it was measured;
+   make bench measures it on another. One that somebody made to be slow takes up
    to 20 times as long as one in name order: some 0.1 s. Where the names rise,
    twice the rows take twice the time, however many they are. Where they do not,
    a list of more than 32,768 rows is gone through once more for each further

@@ -1,4 +1,4 @@
--- What a block of rows says of the rows from its place on.
+-- What a block of rows says of the rows from its place on. For contracts inside the crate alone.
 use mathlib.Core.Path.{_≡_}
 use mathlib.Core.Bool.{Bool, true, false, _||_}
 use mathlib.Core.List.{List, [], _∷_}

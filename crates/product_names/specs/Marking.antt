@@ -1,4 +1,4 @@
--- The marks by which a name is known to be new. Any places would do: all that is proved of them is that they lie among the marks.
+-- The marks by which a name is known to be new. Any places would do: all that is proved of them is that they lie among the marks. For contracts inside the crate alone.
 use mathlib.Core.Bool.{Bool, _&&_}
 use mathlib.Core.List.{List}
 use Prim.Native.Nat.{ℕ, _+_, _*_, _/_, _%_, _^_}
