@@ -11,7 +11,7 @@ LIBRARY = target/staticlib/liblambukir.a
 PROBE = target/staticlib/libprobe.a
 HEADER = target/include/lambukir.h
 PREFIX = /usr/local
-VERSION = 0.5.0
+VERSION = 0.6.0
 
 # rt waits for a whole batch of its jobs: one more than it would take by itself fills the gaps
 export RT_JOBS ?= $(shell n=$$(nproc); echo $$((n < 4 ? n + 1 : 5)))

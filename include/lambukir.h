@@ -115,9 +115,95 @@
 #include <stddef.h>
 #include <stdint.h>
 
+/* The version of this header. lambukir_version tells that of the library. */
+#define LAMBUKIR_VERSION "0.6.0"
+#define LAMBUKIR_VERSION_NUMBER 600 /* 10000 for the first number, 100 for the second, 1 for the third */
+
+/* The numbers that come back */
+#define LAMBUKIR_DONE 0
+#define LAMBUKIR_CURRENT 0
+#define LAMBUKIR_NO_LINE 11
+#define LAMBUKIR_WRONG_SHAPE 12
+#define LAMBUKIR_WRONG_CHECK 13
+#define LAMBUKIR_WRONG_TODAY 14
+#define LAMBUKIR_EXPIRED 15
+#define LAMBUKIR_WRONG_CRC 17
+#define LAMBUKIR_WRONG_HW_ID 18
+#define LAMBUKIR_SOON 20
+#define LAMBUKIR_WRONG_PADDING 21
+#define LAMBUKIR_BEHIND 27
+#define LAMBUKIR_BOOK_DAMAGED 101
+#define LAMBUKIR_WRONG_TENANT 102
+#define LAMBUKIR_OUT_OF_RANGE 103
+#define LAMBUKIR_NOT_HELD 104
+#define LAMBUKIR_QUOTA_USED 105
+#define LAMBUKIR_WRONG_USER_PERMIT 106
+#define LAMBUKIR_UNKNOWN_M_ID 107
+#define LAMBUKIR_OUT_TOO_SHORT 108
+#define LAMBUKIR_REGISTER_DAMAGED 109
+#define LAMBUKIR_CELL_TWICE 110
+
+/* Sizes */
+#define LAMBUKIR_USER_PERMIT_SIZE 28
+#define LAMBUKIR_LINE_SIZE 76      /* the longest line that is written, with its CR LF */
+#define LAMBUKIR_REGISTER_SIZE 1792 /* the longest register: 256 entries of seven bytes */
+#define LAMBUKIR_TENANTS 16
+#define LAMBUKIR_CELLS 512         /* the most cells of a book */
+#define LAMBUKIR_BOOK_SIZE 12389
+#define LAMBUKIR_TEXT_SIZE 64
+#define LAMBUKIR_NO_KEY ((uint64_t)-1)
+
 #ifdef __cplusplus
 extern "C" {
 #endif
+
+uint32_t
+lambukir_version(void);
+
+/* A text with a NUL at its end. */
+typedef struct {
+  char text[LAMBUKIR_TEXT_SIZE];
+} lambukir_text;
+
+/* What a number means, in a few words: "the quota is used". */
+lambukir_text
+lambukir_meaning(uint32_t number);
+
+/* 1 for 0, 15, 20 and 27, and 0 for every other number. */
+uint32_t
+lambukir_is_success(uint32_t number);
+
+/* From text: 0 (of a key LAMBUKIR_NO_KEY) where the text has not exactly that form. */
+uint64_t
+lambukir_name_from_text(const char *text, size_t length);
+
+uint64_t
+lambukir_hw_id_from_text(const char *text, size_t length);
+
+uint32_t
+lambukir_code_from_text(const char *text, size_t length);
+
+uint64_t
+lambukir_key_from_hex(const char *text, size_t length);
+
+uint32_t
+lambukir_date_from_text(const char *text, size_t length);
+
+/* To text: the empty text where the number has not that form. */
+lambukir_text
+lambukir_name_to_text(uint64_t name);
+
+lambukir_text
+lambukir_hw_id_to_text(uint64_t hw_id);
+
+lambukir_text
+lambukir_code_to_text(uint32_t code);
+
+lambukir_text
+lambukir_key_to_hex(uint64_t key);
+
+lambukir_text
+lambukir_date_to_text(uint32_t date);
 
 /* User permits
 
@@ -388,8 +474,6 @@ lambukir_product_standing(const uint8_t *list, size_t list_length,
      one, and never a part of either.
    - After a refusal there is nothing to write: every byte is as it was.
    - A book that gives 101 stays damaged. Take the last good copy. */
-
-#define LAMBUKIR_BOOK_SIZE 12389
 
 /* Makes an empty book: no cells, warning days 30, and for tenant t the quota
    quotas[t] and the Data Server ID that stands at ids + 2 * t. What was in the
