@@ -14,11 +14,11 @@ use Rattle.text.specs.Characters.{isNameCharacter, digitCharacter, decimalText,
 use Rattle.text.specs.Texts.{part}
 use Rattle.text.proofs.Alphabets.{text-length, text-written, number-of-text-fit}
 use Rattle.text.proofs.Notations.{decimal}
+use Rattle.dates.proofs.Parts.{date-fits}
 use Rattle.forms.proofs.Fits.{text-fits, text-all}
 use Rattle.cell_permit.specs.CellPermit.{comma}
 use Rattle.cell_permit.specs.Line.{expiryOf, editionLength, isPermit, isTail, isLine, partsOf, shapeOf, commentOf}
 use Rattle.cell_permit.specs.LineFields.{LineFields, editionText, permitText, lineText, AreFields, partsFor, FieldsRead}
-use Rattle.cell_permit.proofs.GoodCell.{date-fits}
 use Rattle.cell_permit.proofs.LineSizes.{Sizes}
 use Rattle.cell_permit.proofs.Along.{From, part-there, rest-there, head-there, number-there}
 use Rattle.cell_permit.proofs.PermitRead.{at-tail, expiry-read, one-read, two-read, check-read, permit-right}

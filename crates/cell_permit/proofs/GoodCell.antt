@@ -7,16 +7,11 @@ use native.Mathlib.Omega.{arith}
 use borrow.Author.Tests.{ltb-true, lt-ltb, leb-true, le-leb}
 use lib.Dec.{leb}
 use Rattle.bytes.proofs.Every.{either}
-use Rattle.dates.specs.Calendar.{year, isDate}
+use Rattle.dates.specs.Calendar.{isDate}
 use Rattle.dates.proofs.Bounds.{both}
-use Rattle.dates.proofs.Parts.{date-parts}
 use Rattle.forms.specs.Identifiers.{isCellName, isCellKey, isServerId}
 use Rattle.cell_permit.specs.CellPermit.{isCell}
 use Rattle.cell_permit.specs.declared.Cell.{Cell}
-
-pub date-fits : (date : ℕ) → isDate date ≡ true → date < 10 ^ 8
-unfolding year
-date-fits date good = omega (arith, date-parts date good .year-high)
 
 pub record Good (cell : Cell) : Type 0 where
   pub name : isCellName (cell .name) ≡ true

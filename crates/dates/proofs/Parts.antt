@@ -1,7 +1,7 @@
 -- A number is a date if and only if its year, month and day are in their ranges. Assumes nothing.
 use mathlib.Core.Path.{_≡_}
 use mathlib.Core.Bool.{true, false, _&&_}
-use Prim.Native.Nat.{ℕ, _+_, _*_, _<_, _≤_}
+use Prim.Native.Nat.{ℕ, _+_, _*_, _^_, _<_, _≤_}
 use native.Mathlib.Omega.{arith}
 use Rattle.dates.specs.Calendar.{year, month, day, daysIn, within, isDate, daysBeforeYear, daysBeforeMonth, dayNumber}
 use Rattle.dates.proofs.Bounds.{both, inside, bounds}
@@ -42,6 +42,11 @@ module _ (n : ℕ) where
   pub put-together : (n ≡ year n * 10000 + month n * 100 + day n) × (month n < 100) × (day n < 100)
   unfolding year month day
   put-together = omega arith
+
+  -- eight digits hold it
+  pub date-fits : isDate n ≡ true → n < 10 ^ 8
+  unfolding year
+  date-fits e = omega (arith, date-parts e .year-high)
 
   pub number-of-date : isDate n ≡ true → Numbered n
   unfolding dayNumber

@@ -4,3 +4,4 @@ pub mod Files
 pub mod Lists
 pub mod Books
 pub mod CommentPart
+pub mod Texts

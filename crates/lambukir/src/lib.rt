@@ -7,6 +7,7 @@ pub mod books; // books.rt: the shared book
 pub mod files; // files.rt: permit files
 pub mod lists; // lists.rt: product lists
 pub mod permits; // permits.rt: user permits and lines
+pub mod texts; // texts.rt: values as text, and numbers in words
 
 // A block of eight bytes, and 0; at 103, for a key that has not 4 to 56 bytes, the block is 0.
 #[repr(C)]

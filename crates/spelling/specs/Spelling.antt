@@ -1,0 +1,76 @@
+-- Values as people write them. A text that is none gives a number that every call refuses, and a number that is none gives the empty text.
+use mathlib.Core.Bool.{Bool, cond, _&&_}
+use mathlib.Core.List.{List, []}
+use Prim.Native.Nat.{ℕ, _-_, _^_}
+use lib.Dec.{eqb}
+use lib.ListN.{length, replicate}
+use Rattle.bytes.specs.Numbers.{bytesOf, bytesNumber}
+use Rattle.bytes.specs.Every.{allOf}
+use Rattle.text.specs.Characters.{isDigit, isHex, isUpperHex, isNameCharacter, hexText, hexNumber, decimalText, decimalNumber}
+use Rattle.text.specs.Texts.{placed}
+use Rattle.dates.specs.Calendar.{isDate}
+use Rattle.forms.specs.Identifiers.{isText, isCellKey}
+
+-- so many characters, each of which passes the test, and nothing else
+unfoldable pub isWord : (ℕ → Bool) → ℕ → List ℕ → Bool
+isWord test n t = eqb (length t) n && allOf test t
+
+-- an identifier: the number of its bytes; of another text 0, which is no identifier
+unfoldable pub identifierFrom : (ℕ → Bool) → ℕ → List ℕ → ℕ
+identifierFrom test n t = cond (isWord test n t) (bytesNumber t) 0
+
+-- cell name: eight of A-Z 0-9
+abbrev pub nameFrom : List ℕ → ℕ
+nameFrom t = identifierFrom isNameCharacter 8 t
+
+-- HW_ID: five characters of hex
+abbrev pub hwIdFrom : List ℕ → ℕ
+hwIdFrom t = identifierFrom isHex 5 t
+
+-- a code, as M_ID and Data Server ID are: two of A-Z 0-9
+abbrev pub codeFrom : List ℕ → ℕ
+codeFrom t = identifierFrom isNameCharacter 2 t
+
+-- the number that a text which is no cell key gives: too large for one
+abbrev pub noKey : ℕ
+noKey = 2 ^ 64 - 1
+
+-- cell key: ten characters of hex
+unfoldable pub keyFrom : List ℕ → ℕ
+keyFrom t = cond (isWord isHex 10 t) (hexNumber t) noKey
+
+-- eight digits that are a date
+unfoldable pub isDateWord : List ℕ → Bool
+isDateWord t = isWord isDigit 8 t && isDate (decimalNumber t)
+
+-- date: its digits as a number; of another text 0, which is no date
+unfoldable pub dateFrom : List ℕ → ℕ
+dateFrom t = cond (isDateWord t) (decimalNumber t) 0
+
+-- an identifier as its characters
+unfoldable pub identifierTo : (ℕ → Bool) → ℕ → ℕ → List ℕ
+identifierTo test n x = cond (isText test n x) (bytesOf n x) []
+
+-- cell name
+abbrev pub nameTo : ℕ → List ℕ
+nameTo x = identifierTo isNameCharacter 8 x
+
+-- HW_ID
+abbrev pub hwIdTo : ℕ → List ℕ
+hwIdTo x = identifierTo isUpperHex 5 x
+
+-- a code
+abbrev pub codeTo : ℕ → List ℕ
+codeTo x = identifierTo isNameCharacter 2 x
+
+-- cell key
+unfoldable pub keyTo : ℕ → List ℕ
+keyTo x = cond (isCellKey x) (hexText 10 x) []
+
+-- date: YYYYMMDD
+unfoldable pub dateTo : ℕ → List ℕ
+dateTo x = cond (isDate x) (decimalText 8 x) []
+
+-- the 64 bytes that C gets of a text: zeros with the text put at their start
+abbrev pub spelled : List ℕ → List ℕ
+spelled t = placed 0 t (replicate 64 0)
