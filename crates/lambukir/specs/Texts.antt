@@ -13,6 +13,10 @@ version = 600
 abbrev pub oneIf : Bool → ℕ
 oneIf test = cond test 1 0
 
+-- 64 bytes
+abbrev pub textOf : List ℕ → Text
+textOf bytes = record { text = bytes }
+
 -- a text, with zeros after it
 abbrev pub textFor : List ℕ → Text
-textFor t = record { text = spelled t }
+textFor t = textOf (spelled t)
