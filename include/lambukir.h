@@ -4,23 +4,32 @@
    lists (PRODUCTS.TXT), with the cipher and the checksum that permits are made
    of, and the book of cell keys that sixteen agents share.
 
-   Link with liblambukir.a. It needs the C library and nothing else.
+   Link with liblambukir.so or liblambukir.a. Both need the C library and
+   nothing else, and both are for x86-64 Linux.
+
+   Calls
 
    Every function takes every input and comes back. None allocates, and none
-   keeps anything between calls, so threads may call them at the same time; but
-   calls on one book are made one at a time (see "The book").
-   None wipes the stack: what a call worked with, a key's words among it, stays
-   there until something else is written over it.
+   keeps anything between calls, so threads may call them at the same time; on
+   one book see "How to keep a book". A call takes at most 6 KiB of stack, but
+   for lambukir_product_standing, which says what it takes. None wipes the
+   stack: what a call worked with, a key's words among it, stays there until
+   something else is written over it.
+
+   A call takes a microsecond or two, and some 35 more for each key of the
+   cipher that it has to set up: where it does, it says "one key set-up". Only
+   a product list takes longer, and says how long.
 
    Slices
 
    A slice is two arguments: a pointer to its first byte, and its length in
    bytes. The caller owns the bytes, before and after. A call reads them, writes
    none but those of a slice named out and of a book that is not const, and
-   keeps no pointer. Slices lent to one call do not overlap. The pointer is not
-   NULL, not even where the length is 0. Texts have no NUL at their end; a NUL
-   is a byte like any other. (The quotas of lambukir_open_book are the one slice
-   of other things than bytes: its length counts numbers.)
+   keeps no pointer. Slices lent to one call do not overlap. Where the length is
+   0 the pointer may be anything, also NULL, and is not followed. Texts have no
+   NUL at their end; a NUL is a byte like any other. (The quotas of
+   lambukir_open_book are the one slice of other things than bytes: its length
+   counts numbers.)
 
    Values
 
@@ -29,6 +38,11 @@
    0x4E4F344430363133, Data Server ID "GB" is 0x4742. A cell key is any five
    bytes, likewise: C1 CB 51 8E 9C is 0xC1CB518E9C. Any other number is no
    identifier, and is refused as a bad text would be.
+
+   Never copy the bytes of a text into such a number: x86-64 has the first byte
+   at the bottom, so memcpy(&name, "NO4D0613", 8) is the name 3160D4ON, which is
+   as good a name as any, and is entered and issued without a word. The checked
+   way is lambukir_name_from_text, and its like for the others (see "Text").
 
      HW_ID, M_KEY     five of 0-9 A-F
      M_ID, server     two of A-Z 0-9; server is a Data Server ID
@@ -42,39 +56,16 @@
    A date is the number YYYYMMDD: 20240229. It is a day of the calendar of the
    years 1900 to 2999, or it is no date.
 
-   The numbers that come back
+   An example
 
-     0    done; or a record, and its permit is current
-     11   the file has a good header and no line in its ENC part
-     12   line, row, header or place of a wrong shape, or a date in it is none
-     13   the check part is wrong for this HW_ID
-     14   today is no date
-     15   a record, and its permit has expired
-     17   the user permit's CRC is wrong
-     18   the HW_ID, given or deciphered from a user permit, is none
-     20   a record, and its permit expires soon
-     21   the check part is right, but a key is wrongly padded
-     27   a cell, and the ship is behind the product list with it
-     101  the book is damaged, or not 12,389 bytes long
-     102  the tenant is above 15
-     103  another given value is out of its range; each function says which
-     104  the tenant does not hold that cell
-     105  a new cell, and the tenant's quota is used
-     106  the user permit is not 28 of 0-9 A-F
-     107  the M_ID is not in the register
-     108  out is too short: less than 28 bytes (user permit) or 76 (line)
-     109  the register is damaged
-     110  a cell has two rows in the product list
+   Of the short programs beside the sources, sample/desk.c shows each call on a
+   book, sample/keep.c keeps one in a file, and sample/standing.c holds a ship's
+   cells against a product list. Here we make a user permit, and read a file to
+   its end. It prints
 
-   0, 15, 20 and 27 are success. Each other number is a refusal: every lent byte
-   is as it was, and every field of the answer but number (and, for a file's
-   line, next) is 0. Where there is more than one reason to refuse, the number
-   is the first of the order that stands with the function.
-
-   Examples: of the short programs beside the sources, sample/desk.c keeps a
-   book, and sample/standing.c holds a ship's cells against a product list. Here
-   we make a user permit, and read a file to its end. It prints
-   73871727080876A07E450C043031, and then 20 20000830.
+     73871727080876A07E450C043031
+     NO4D0613 until 20000830: 20, the permit expires soon
+     12, wrong shape of line, row, header or place
 
      #include <inttypes.h>
      #include <lambukir.h>
@@ -84,27 +75,32 @@
      static const char file[] =
        ":DATE 20000801 11:11\r\n:VERSION 2\r\n:ENC\r\n"
        "NO4D061320000830BEB9BFE3C7C6CE68B16411FD09F96982795C77B204F54D48"
-       ",0,5,GB,\r\n:ECS\r\n";
+       ",0,5,GB,\r\nSHORT\r\n:ECS\r\n";
 
      int main(void)
      {
-       const uint64_t hw_id = 0x3132333438;
-       uint8_t permit[28];
-       if (lambukir_make_user_permit((const uint8_t *)reg, 7, hw_id, 0x3031,
-                                     permit, sizeof permit) == 0)
+       const uint64_t hw_id = lambukir_hw_id_from_text("12348", 5);
+       const uint32_t m_id = lambukir_code_from_text("01", 2);
+       uint8_t permit[LAMBUKIR_USER_PERMIT_SIZE];
+       if (lambukir_make_user_permit((const uint8_t *)reg, 7, hw_id, m_id,
+                                     permit, sizeof permit) == LAMBUKIR_DONE)
          printf("%.28s\n", (const char *)permit);
 
        const uint8_t *bytes = (const uint8_t *)file;
-       size_t length = sizeof file - 1;
+       const size_t length = sizeof file - 1;
        lambukir_place start = lambukir_open_file(bytes, length);
        lambukir_file_line line = { .next = start.place };
-       while (start.number == 0) {
+       while (start.number == LAMBUKIR_DONE) {
          size_t place = line.next;
          line = lambukir_read_file_line(hw_id, 20000801, 30, bytes, length,
                                         place);
          if (line.next == place)
-           break; // the end, or 18, 14 or 103
-         printf("%" PRIu32 " %" PRIu32 "\n", line.number, line.expiry);
+           break; // the end, or 18, 14 or 103: not at_end alone, nor number 0
+         if (lambukir_is_success(line.number))
+           printf("%s until %" PRIu32 ": ",
+                  lambukir_name_to_text(line.name).text, line.expiry);
+         printf("%" PRIu32 ", %s\n", line.number,
+                lambukir_meaning(line.number).text);
        }
        return line.at_end ? 0 : 1;
      } */
@@ -115,65 +111,98 @@
 #include <stddef.h>
 #include <stdint.h>
 
-/* The version of this header. lambukir_version tells that of the library. */
+/* The version of this header: as text, and as a number, 10000 for the first of
+   its three, 100 for the second and 1 for the third. While the first is 0, a
+   new second number may change the interface, and the shared library's name
+   changes with it (liblambukir.so.0.6). */
 #define LAMBUKIR_VERSION "0.6.0"
-#define LAMBUKIR_VERSION_NUMBER 600 /* 10000 for the first number, 100 for the second, 1 for the third */
+#define LAMBUKIR_VERSION_NUMBER 600
 
-/* The numbers that come back */
-#define LAMBUKIR_DONE 0
-#define LAMBUKIR_CURRENT 0
-#define LAMBUKIR_NO_LINE 11
-#define LAMBUKIR_WRONG_SHAPE 12
-#define LAMBUKIR_WRONG_CHECK 13
-#define LAMBUKIR_WRONG_TODAY 14
-#define LAMBUKIR_EXPIRED 15
-#define LAMBUKIR_WRONG_CRC 17
-#define LAMBUKIR_WRONG_HW_ID 18
-#define LAMBUKIR_SOON 20
-#define LAMBUKIR_WRONG_PADDING 21
-#define LAMBUKIR_BEHIND 27
-#define LAMBUKIR_BOOK_DAMAGED 101
-#define LAMBUKIR_WRONG_TENANT 102
-#define LAMBUKIR_OUT_OF_RANGE 103
-#define LAMBUKIR_NOT_HELD 104
-#define LAMBUKIR_QUOTA_USED 105
-#define LAMBUKIR_WRONG_USER_PERMIT 106
-#define LAMBUKIR_UNKNOWN_M_ID 107
-#define LAMBUKIR_OUT_TOO_SHORT 108
-#define LAMBUKIR_REGISTER_DAMAGED 109
-#define LAMBUKIR_CELL_TWICE 110
+/* The numbers that come back
 
-/* Sizes */
+   0, 15, 20 and 27 are success. Each other number is a refusal: every lent byte
+   is as it was, and every field of the answer but number (and, for a file's
+   line, next) is 0. Where there is more than one reason to refuse, the number
+   is the first of the order that stands with the function. What stands here
+   beside a number is what lambukir_meaning says of it. */
+#define LAMBUKIR_DONE 0               /* done */
+#define LAMBUKIR_NO_LINE 11           /* no line in the ENC part of the file */
+#define LAMBUKIR_WRONG_SHAPE 12       /* wrong shape of line, row, header or place */
+#define LAMBUKIR_WRONG_CHECK 13       /* the check part is wrong for this HW_ID */
+#define LAMBUKIR_WRONG_TODAY 14       /* today is no date */
+#define LAMBUKIR_EXPIRED 15           /* the permit has expired */
+#define LAMBUKIR_WRONG_CRC 17         /* the CRC of the user permit is wrong */
+#define LAMBUKIR_WRONG_HW_ID 18       /* the HW_ID is not of its form */
+#define LAMBUKIR_SOON 20              /* the permit expires soon */
+#define LAMBUKIR_WRONG_PADDING 21     /* a key is wrongly padded */
+#define LAMBUKIR_BEHIND 27            /* the ship is behind the product list */
+#define LAMBUKIR_BOOK_DAMAGED 101     /* the book is damaged or of wrong length */
+#define LAMBUKIR_WRONG_TENANT 102     /* the tenant is above 15 */
+#define LAMBUKIR_OUT_OF_RANGE 103     /* a value is not of its form or range */
+#define LAMBUKIR_NOT_HELD 104         /* the tenant does not hold that cell */
+#define LAMBUKIR_QUOTA_USED 105       /* the quota is used */
+#define LAMBUKIR_NO_USER_PERMIT 106   /* the user permit is not 28 of 0-9 A-F */
+#define LAMBUKIR_UNKNOWN_M_ID 107     /* the M_ID is not in the register */
+#define LAMBUKIR_OUT_TOO_SHORT 108    /* the output is too short */
+#define LAMBUKIR_REGISTER_DAMAGED 109 /* the register is damaged */
+#define LAMBUKIR_CELL_TWICE 110       /* a cell has two rows in the product list */
+
+/* Of a record 0 says that its permit is current. */
+#define LAMBUKIR_CURRENT LAMBUKIR_DONE
+
+/* Sizes, in bytes where nothing else is said. */
 #define LAMBUKIR_USER_PERMIT_SIZE 28
-#define LAMBUKIR_LINE_SIZE 76      /* the longest line that is written, with its CR LF */
-#define LAMBUKIR_REGISTER_SIZE 1792 /* the longest register: 256 entries of seven bytes */
-#define LAMBUKIR_TENANTS 16
-#define LAMBUKIR_CELLS 512         /* the most cells of a book */
+#define LAMBUKIR_LINE_SIZE 76       /* the longest line written, with CR LF */
+#define LAMBUKIR_LINE_READ_SIZE 160 /* the longest line read, without CR LF */
+#define LAMBUKIR_REGISTER_SIZE 1792 /* the longest register: 256 entries */
 #define LAMBUKIR_BOOK_SIZE 12389
-#define LAMBUKIR_TEXT_SIZE 64
-#define LAMBUKIR_NO_KEY ((uint64_t)-1)
+#define LAMBUKIR_TENANTS 16         /* how many tenants a book has */
+#define LAMBUKIR_CELLS 512          /* the most cells of a book, all tenants' */
+#define LAMBUKIR_IDS_SIZE 32        /* the Data Server IDs of all tenants */
+#define LAMBUKIR_TEXT_SIZE 64       /* a text that is an answer, with its NUL */
+
+/* Service levels */
+#define LAMBUKIR_SUBSCRIPTION 0
+#define LAMBUKIR_SINGLE_PURCHASE 1
 
 #ifdef __cplusplus
 extern "C" {
 #endif
 
+/* The version of the library that was linked, as LAMBUKIR_VERSION_NUMBER has
+   that of the header. */
 uint32_t
 lambukir_version(void);
 
-/* A text with a NUL at its end. */
+/* 1 for a number that is success: 0, 15, 20 and 27. 0 for every other. */
+uint32_t
+lambukir_is_success(uint32_t number);
+
+/* Text
+
+   A text that is an answer has a NUL at its end, and zeros from there on. It
+   comes by value: use it at once, as in printf("%s", f(x).text), or keep the
+   struct. A pointer to the text of an answer that was not kept points nowhere
+   as soon as the expression is over. (Before C11 keep the struct first.) */
 typedef struct {
   char text[LAMBUKIR_TEXT_SIZE];
 } lambukir_text;
 
-/* What a number means, in a few words: "the quota is used". */
+/* What a number means, in a few words: of 105 "the quota is used". */
 lambukir_text
 lambukir_meaning(uint32_t number);
 
-/* 1 for 0, 15, 20 and 27, and 0 for every other number. */
-uint32_t
-lambukir_is_success(uint32_t number);
+/* From text to value, and nothing but exactly the form is taken: no character
+   more or less, none of another alphabet, no blank. The text need have no NUL.
+   Of anything else the value is 0, which is no identifier and no date, and of a
+   key it is LAMBUKIR_NO_KEY, which is none. Every call refuses these, so that a
+   wrong text is refused even where nobody asks.
 
-/* From text: 0 (of a key LAMBUKIR_NO_KEY) where the text has not exactly that form. */
+     name    eight of A-Z 0-9: a cell name
+     hw_id   five of 0-9 A-F
+     code    two of A-Z 0-9: an M_ID or a Data Server ID
+     key     ten of 0-9 A-F: the five bytes of a cell key in hex
+     date    eight digits YYYYMMDD that are a date */
 uint64_t
 lambukir_name_from_text(const char *text, size_t length);
 
@@ -183,13 +212,16 @@ lambukir_hw_id_from_text(const char *text, size_t length);
 uint32_t
 lambukir_code_from_text(const char *text, size_t length);
 
+#define LAMBUKIR_NO_KEY ((uint64_t)-1)
+
 uint64_t
 lambukir_key_from_hex(const char *text, size_t length);
 
 uint32_t
 lambukir_date_from_text(const char *text, size_t length);
 
-/* To text: the empty text where the number has not that form. */
+/* And back: the text that gives this value, and of a number that is none the
+   empty text. */
 lambukir_text
 lambukir_name_to_text(uint64_t name);
 
@@ -213,7 +245,7 @@ lambukir_date_to_text(uint32_t date);
    bytes, is no multiple of 7, has another character or another order is 109. */
 
 /* Writes the user permit of a HW_ID to the first 28 bytes of out, and answers
-   0. The bytes after them stay as they were.
+   0. The bytes after them stay as they were. One key set-up.
 
    Refusals, in this order: 109; 108, out has less than 28 bytes; 18; 107. */
 uint32_t
@@ -227,7 +259,8 @@ typedef struct {
   uint32_t number;
 } lambukir_user_permit;
 
-/* Reads a user permit: its HW_ID and its M_ID, and number 0.
+/* Reads a user permit: its HW_ID and its M_ID, and number 0. One key set-up,
+   but none before 109, 106, 17 and 107.
 
    Refusals, in this order: 109, 106, 17, 107, 18. */
 lambukir_user_permit
@@ -258,9 +291,12 @@ typedef struct {
 } lambukir_line;
 
 /* Reads one line, given without its CR LF, for the HW_ID it was made for. days
-   is the warning days, 1 to 90.
+   is the warning days, 1 to 90. One key set-up, but none before 12.
 
-   Refusals, in this order: 18; 14; 103, days; 12; 13; 21. */
+   A line that was written or issued ends with CR LF: it is read with two bytes
+   less than its length. With them it is 12.
+
+   Refusals, in this order: 18; 14; 103, days is not 1 to 90; 12; 13; 21. */
 lambukir_line
 lambukir_read_line(uint64_t hw_id, uint32_t today, uint32_t days,
                    const uint8_t *line, size_t line_length);
@@ -290,10 +326,11 @@ typedef struct {
 
 /* Writes a line for a HW_ID to the start of out: the cell permit, service
    level, edition, Data Server ID, an empty comment, and CR LF. The line has 74
-   to 76 bytes; those after it stay as they were.
+   to 76 bytes; those after it stay as they were. One key set-up.
 
    Refusals, in this order: 108, out has less than 76 bytes, however short the
-   line; 103, name, expiry, a key, level, edition or server is none; 18. */
+   line; 103, name, expiry, a key, level, edition or server is not of its form
+   or range; 18. */
 lambukir_written
 lambukir_write_line(uint64_t hw_id, uint64_t name, uint32_t expiry,
                     uint64_t key_one, uint64_t key_two,
@@ -356,7 +393,12 @@ typedef struct {
    CR LF, or the file's length where there is none. So a bad line does not stop
    the reading. At the end and after 18, 14 and 103 it is the place that was
    given: whoever reads on from there gets the same answer for ever. No other
-   answer gives that place back. */
+   answer gives that place back, so a loop ends where next is the place that it
+   gave, as in the example above. number 0 alone does not tell: it is a current
+   permit, or the end.
+
+   One key set-up for each line that has its shape, and none for 12 and at the
+   end. */
 lambukir_file_line
 lambukir_read_file_line(uint64_t hw_id, uint32_t today, uint32_t days,
                         const uint8_t *file, size_t file_length, size_t place);
@@ -410,6 +452,11 @@ lambukir_read_file_line(uint64_t hw_id, uint32_t today, uint32_t days,
 
    number is 27 where the ship is behind, and 0 with the other three. After a
    refusal standing is 0, so look at number first. */
+#define LAMBUKIR_STANDING_UP_TO_DATE 0
+#define LAMBUKIR_STANDING_BEHIND 1
+#define LAMBUKIR_STANDING_CANCELLED 2
+#define LAMBUKIR_STANDING_NOT_LISTED 3
+
 typedef struct {
   uint32_t standing;
   uint32_t number;
@@ -418,9 +465,9 @@ typedef struct {
 /* How a cell of which a ship has an edition and an update stands against the
    list. update is 0 where the ship has none for that edition.
 
-   Refusals, in this order: 103, name, edition or update is none; 12, the header
-   or a row is not so, wherever the row stands; 110, a name has two rows before
-   :ECS, be it that of another cell.
+   Refusals, in this order: 103, name, edition or update is not of its form or
+   range; 12, the header or a row is not so, wherever the row stands; 110, a
+   name has two rows before :ECS, be it that of another cell.
 
    A call reads the whole list up to :ECS, and is lent nothing but the list.
    Where the names do not rise from row to row it needs up to 600 KiB of stack:
@@ -438,10 +485,11 @@ lambukir_product_standing(const uint8_t *list, size_t list_length,
 /* The book
 
    A book holds the cell keys of sixteen tenants, who are the agents of one
-   permit desk. It is a slice of 12,389 bytes (LAMBUKIR_BOOK_SIZE) that the
-   caller keeps, in memory and in a file; nothing else is kept anywhere.
-   lambukir_open_book makes the first one, and from then on it is changed by
-   lambukir_enter, lambukir_withdraw and lambukir_set_days alone.
+   permit desk: at most 512 cells in all. It is a slice of 12,389 bytes
+   (LAMBUKIR_BOOK_SIZE) that the caller keeps, in memory and in a file; nothing
+   else is kept anywhere. lambukir_open_book makes the first one, and from then
+   on it is changed by lambukir_enter, lambukir_withdraw and lambukir_set_days
+   alone.
 
    A tenant is a number from 0 to 15. It has
 
@@ -458,29 +506,43 @@ lambukir_product_standing(const uint8_t *list, size_t list_length,
    order: as long as each one's own calls keep theirs, the book at the end is
    the same to the last byte, and so is every answer.
 
-   Every call but lambukir_open_book judges the whole book first. One of another
-   length, or with a byte that no book can have, is 101. What is judged is the
-   form: a book with other keys in it is another good book, so see to it that
-   nobody else can write yours.
+   Every call but lambukir_open_book judges the whole book first, which takes a
+   microsecond or two where it is full. One of another length, or with a byte
+   that no book can have, is 101. What is judged is the form: a book in which a
+   key was changed is another good book, and its lines unlock nothing.
 
-   How to keep a book
+   How to keep a book (sample/keep.c does all of this)
 
-   - Make one call at a time on a book: there is one writer, and nobody reads
-     during a call that writes (one whose book is not const). Calls that only
-     read may run side by side.
+   - Open it once, by lambukir_open_book, and never call that on a book that was
+     read from the disk: it erases.
+   - Calls whose book is const may run side by side on one book; any other call
+     on it runs alone, while no other call on that book does.
+   - Where several programs change one book in a file, each takes a lock (flock)
+     before it reads the file and holds it until the new one is saved. Lock a
+     file of its own beside the book, and not the book's: a rename puts another
+     file in its place, and the lock stays with the old one.
+   - Keep the CRC-32 of the book (lambukir_crc32) behind it in the same file, so
+     that both change at once: LAMBUKIR_BOOK_SIZE bytes and four more. Compare
+     it when the file is read. It tells a book that went bad on the disk; it
+     does not tell one that somebody wrote on purpose, so see to it that nobody
+     else can write yours, nor read the keys in it.
    - After a change write the whole book to a new file beside the old one, sync
      the new file, rename it over the old one, and sync their directory; then
      tell the tenant that it is done. A crash leaves the old book or the new
-     one, and never a part of either.
+     one, and never a part of either. Several changes may be made on a copy in
+     memory and saved once; a refusal among them leaves the copy as it was.
    - After a refusal there is nothing to write: every byte is as it was.
-   - A book that gives 101 stays damaged. Take the last good copy. */
+   - A book that gives 101 stays damaged. Take the last good copy.
+   - A book's first byte is the version of its form, 1, and every library whose
+     books have that form reads it. A library with another form refuses it (101)
+     and brings a call that carries it over. */
 
-/* Makes an empty book: no cells, warning days 30, and for tenant t the quota
-   quotas[t] and the Data Server ID that stands at ids + 2 * t. What was in the
-   book before is neither looked at nor kept.
+/* ERASES the book, and makes an empty one: no cells, warning days 30, and for
+   tenant t the quota quotas[t] and the Data Server ID that stands at
+   ids + 2 * t. What was in the book before is neither looked at nor kept.
 
-   quotas is sixteen numbers (quotas_length is 16, not 32), and ids 32 bytes.
-   Two tenants may have the same Data Server ID.
+   quotas is sixteen numbers (quotas_length is LAMBUKIR_TENANTS, not 32), and
+   ids LAMBUKIR_IDS_SIZE bytes. Two tenants may have the same Data Server ID.
 
    Refusals, in this order: 101, book is not LAMBUKIR_BOOK_SIZE bytes; 103, not
    sixteen quotas, they sum to more than 512, not 32 bytes of ids, or a
@@ -493,8 +555,9 @@ lambukir_open_book(uint8_t *book, size_t book_length,
 /* Enters a cell, and answers 0. Where the tenant holds one of that name, its
    edition and keys are replaced, and the quota does not matter.
 
-   Refusals, in this order: 101; 102; 103, name, edition or a key is none; 105,
-   the name is new, and the tenant holds as many cells as its quota allows. */
+   Refusals, in this order: 101; 102; 103, name, edition or a key is not of its
+   form or range; 105, the name is new, and the tenant holds as many cells as
+   its quota allows. */
 uint32_t
 lambukir_enter(uint8_t *book, size_t book_length, uint32_t tenant,
                uint64_t name, uint32_t edition,
@@ -503,7 +566,7 @@ lambukir_enter(uint8_t *book, size_t book_length, uint32_t tenant,
 /* Takes a cell out of the book, and answers 0. Its room is free at once, for
    the same tenant, and its keys are no longer in the book.
 
-   Refusals, in this order: 101; 102; 103, name is none; 104. */
+   Refusals, in this order: 101; 102; 103, name is not of its form; 104. */
 uint32_t
 lambukir_withdraw(uint8_t *book, size_t book_length, uint32_t tenant,
                   uint64_t name);
@@ -522,18 +585,20 @@ typedef struct {
 
 /* The edition of a cell that the tenant holds, and number 0.
 
-   Refusals, in this order: 101; 102; 103, name is none; 104. */
+   Refusals, in this order: 101; 102; 103, name is not of its form; 104. */
 lambukir_edition
 lambukir_ask_edition(const uint8_t *book, size_t book_length, uint32_t tenant,
                      uint64_t name);
 
 /* Issues a line for the ship that a user permit names, to the start of out: the
    line that lambukir_write_line writes for the ship's HW_ID, with keys and
-   edition of the tenant's cell and with the tenant's Data Server ID.
+   edition of the tenant's cell and with the tenant's Data Server ID. It ends
+   with CR LF, which length counts: lambukir_check takes it without. Two key
+   set-ups.
 
    Refusals, in this order: 101; 109; 102; 108, out has less than 76 bytes; 103,
-   name, expiry or level is none; 106; 17; 107; 18, all four of the user permit;
-   104. */
+   name, expiry or level is not of its form or range; 106; 17; 107; 18, all four
+   of the user permit; 104. */
 lambukir_written
 lambukir_issue(const uint8_t *book, size_t book_length,
                const uint8_t *reg, size_t reg_length,
@@ -543,7 +608,7 @@ lambukir_issue(const uint8_t *book, size_t book_length,
 
 /* Reads one line, given without its CR LF, as lambukir_read_line does, with the
    tenant's own warning days. The line need not be one that the tenant issued,
-   and its Data Server ID may be another.
+   and its Data Server ID may be another. One key set-up, but none before 12.
 
    Refusals, in this order: 101; 102; 18; 14; 12; 13; 21. */
 lambukir_line
@@ -569,8 +634,8 @@ typedef struct {
 /* Blowfish on one block. The eight bytes of a block are one number, the first
    byte at its top: 01 23 45 67 89 AB CD EF is 0x0123456789ABCDEF.
 
-   The key is 4 to 56 bytes; any other length is 103. It is set up anew at each
-   call, which takes as long as 521 blocks.
+   The key is 4 to 56 bytes; any other length is 103. One key set-up, which
+   takes as long as 521 blocks.
 
    Deciphering after enciphering under the same key gives the block back. */
 lambukir_block

@@ -13,8 +13,8 @@ isSuccess n = eqb n 0 || eqb n 15 || eqb n 20 || eqb n 27
 -- the numbers of the rules, each with its meaning
 abbrev pub rows : List (ℕ × String)
 rows =
-    (0, "done, or a permit that is current")
-    ∷ (11, "the file has no line in its ENC part")
+    (0, "done")
+    ∷ (11, "no line in the ENC part of the file")
     ∷ (12, "wrong shape of line, row, header or place")
     ∷ (13, "the check part is wrong for this HW_ID")
     ∷ (14, "today is no date")

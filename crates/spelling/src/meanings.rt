@@ -22,8 +22,8 @@ pub fn meaning(number: u32) -> [u8; 64]
     ensures { λ r. ⌜ r ≡ spelled (meaningOf number) ⌝ }
 {
     match number {
-        0 => spelled(b"done, or a permit that is current"),
-        11 => spelled(b"the file has no line in its ENC part"),
+        0 => spelled(b"done"),
+        11 => spelled(b"no line in the ENC part of the file"),
         12 => spelled(b"wrong shape of line, row, header or place"),
         13 => spelled(b"the check part is wrong for this HW_ID"),
         14 => spelled(b"today is no date"),
