@@ -27,7 +27,7 @@ files_of = crates.txt $(foreach crate,$(shell tests/crates $(1)),$(shell find cr
 help:
 	@sed -n '/^$$/q; s/^# //p' Makefile
 
-run: target/packages proved target/sample/desk target/sample/standing
+run: target/compiler proved target/sample/desk target/sample/standing
 	@printf '\nThe look-through of sample/PERMIT.TXT:\n\n'
 	@sample/look_through
 	@printf '\nThe desk at work:\n\n'
@@ -70,13 +70,19 @@ $(HEADER): include/lambukir.h
 	@mkdir -p $(@D)
 	@cp $< $@
 
-# what the comparisons and the benchmark need of others
-target/packages: tests/packages
+# what the samples need of others
+target/compiler: tests/packages
+	@tests/packages compiler
+	@mkdir -p $(@D)
+	@touch $@
+
+# what the comparisons and the benchmark need besides; not at the same time, since one apt locks out another
+target/packages: tests/packages | target/compiler
 	@tests/packages
 	@mkdir -p $(@D)
 	@touch $@
 
-target/sample/%: sample/%.c $(LIBRARY) $(HEADER) | target/packages
+target/sample/%: sample/%.c $(LIBRARY) $(HEADER) | target/compiler
 	@mkdir -p $(@D)
 	@$(CC) $(CFLAGS) -Itarget/include -o $@ $< $(LIBRARY)
 
