@@ -1,17 +1,20 @@
 # make run      prove the look-through and the library, look through the sample PERMIT.TXT, show the desk at work and which charts of a ship are behind
 # make test     the whole gate: every proof, then the comparisons with programs of others
 # make bench    our cipher, checksum, permits, book, product list and look-through beside OpenSSL's, zlib's and plain C
-# make lib      target/staticlib/liblambukir.a and target/include/lambukir.h, for C
+# make lib      the library for C: target/staticlib/liblambukir.a, target/sharedlib/liblambukir.so and target/include/lambukir.h
 # make install  the library, its header and its pkg-config file below PREFIX, or below DESTDIR and PREFIX
 # make help     this list
 
 CC = tests/x86-64 gcc
 CFLAGS = -std=c11 -O2 -Wall -Wextra -Werror
+VERSION := $(shell sed -n 's/^.define LAMBUKIR_VERSION "\([^"]*\)".*/\1/p' include/lambukir.h)
+# the first two numbers of the version: while the first is 0, each second one may change the interface
+SONAME = liblambukir.so.$(basename $(VERSION))
 LIBRARY = target/staticlib/liblambukir.a
+SHARED = target/sharedlib/liblambukir.so.$(VERSION)
 PROBE = target/staticlib/libprobe.a
 HEADER = target/include/lambukir.h
 PREFIX = /usr/local
-VERSION = 0.6.0
 
 # rt waits for a whole batch of its jobs: one more than it would take by itself fills the gaps
 export RT_JOBS ?= $(shell n=$$(nproc); echo $$((n < 4 ? n + 1 : 5)))
@@ -42,7 +45,7 @@ bench: target/bench/bench target/bench/look_through target/bin/look_through
 	@[ "$$(uname -m)" = x86_64 ] || echo "the library is for x86-64: here an emulator runs it, and the figures say nothing"
 	tests/x86-64 target/bench/bench
 
-lib: $(LIBRARY) $(HEADER)
+lib: target/compiler $(LIBRARY) $(HEADER) $(SHARED)
 
 install: lib
 	install -d '$(DESTDIR)$(PREFIX)/include' '$(DESTDIR)$(PREFIX)/lib/pkgconfig'
@@ -70,7 +73,17 @@ $(HEADER): include/lambukir.h
 	@mkdir -p $(@D)
 	@cp $< $@
 
-# what the samples need of others
+# All of the archive, and nothing that runs as it is loaded. It exports what the header declares, and a call within it stays within it, as is proved.
+$(SHARED): $(LIBRARY) $(HEADER) | target/compiler
+	@rm -rf $(@D)
+	@mkdir -p $(@D)
+	@{ echo '{ global:'; sed -n 's/^\(lambukir_[a-z0-9_]*\)(.*/\1;/p' $(HEADER); echo 'local: *; };'; } >$(@D)/exported
+	@$(CC) -shared -nostartfiles -o $@ -Wl,--whole-archive $(LIBRARY) -Wl,--no-whole-archive -Wl,-soname,$(SONAME) \
+		-Wl,--version-script=$(@D)/exported -Wl,-Bsymbolic -Wl,--no-undefined -Wl,-z,text,-z,relro,-z,now,-z,noexecstack
+	@ln -s $(@F) $(@D)/$(SONAME)
+	@ln -s $(SONAME) $(@D)/liblambukir.so
+
+# what the samples and the shared library need of others
 target/compiler: tests/packages
 	@tests/packages compiler
 	@mkdir -p $(@D)
