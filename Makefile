@@ -2,7 +2,7 @@
 # make test     the whole gate: every proof, then the comparisons with programs of others
 # make bench    our cipher, checksum, permits, book, product list and look-through beside OpenSSL's, zlib's and plain C
 # make lib      the library for C: target/staticlib/liblambukir.a, target/sharedlib/liblambukir.so and target/include/lambukir.h
-# make install  the library, its header and its pkg-config file below PREFIX, or below DESTDIR and PREFIX
+# make install  what make lib built, with a pkg-config file and the samples, below PREFIX, or below DESTDIR and PREFIX; it proves nothing
 # make help     this list
 
 CC = tests/x86-64 gcc
@@ -15,6 +15,7 @@ SHARED = target/sharedlib/liblambukir.so.$(VERSION)
 PROBE = target/staticlib/libprobe.a
 HEADER = target/include/lambukir.h
 PREFIX = /usr/local
+PLACE = $(DESTDIR)$(PREFIX)
 
 # rt waits for a whole batch of its jobs: one more than it would take by itself fills the gaps
 export RT_JOBS ?= $(shell n=$$(nproc); echo $$((n < 4 ? n + 1 : 5)))
@@ -25,7 +26,7 @@ MODEL = $(addprefix target/tests/,model.o model_book.o model_file.o model_produc
 # what a crate is made of: its own files and those of all that it uses, and their folders, which tell of a file taken away
 files_of = crates.txt $(foreach crate,$(shell tests/crates $(1)),$(shell find crates/$(crate) -name must-fail -prune -o -print))
 
-.PHONY: help run test bench lib install proved comparisons
+.PHONY: help run test bench lib install built proved comparisons
 
 help:
 	@sed -n '/^$$/q; s/^# //p' Makefile
@@ -47,13 +48,27 @@ bench: target/bench/bench target/bench/look_through target/bin/look_through
 
 lib: target/compiler $(LIBRARY) $(HEADER) $(SHARED)
 
-install: lib
-	install -d '$(DESTDIR)$(PREFIX)/include' '$(DESTDIR)$(PREFIX)/lib/pkgconfig'
-	install -m 644 include/lambukir.h '$(DESTDIR)$(PREFIX)/include/lambukir.h'
-	install -m 644 $(LIBRARY) '$(DESTDIR)$(PREFIX)/lib/liblambukir.a'
+# It does not ask make whether the library is up to date: whoever installs may be root, without rt, and a folder's new time would prove all again.
+install: built
+	install -d '$(PLACE)/include' '$(PLACE)/lib/pkgconfig' '$(PLACE)/share/doc/lambukir/sample'
+	install -m 644 $(HEADER) '$(PLACE)/include'
+	install -m 644 $(LIBRARY) $(SHARED) '$(PLACE)/lib'
+	ln -sfn $(notdir $(SHARED)) '$(PLACE)/lib/$(SONAME)'
+	ln -sfn $(SONAME) '$(PLACE)/lib/liblambukir.so'
 	printf '%s\n' 'prefix=$(PREFIX)' 'includedir=$${prefix}/include' 'libdir=$${prefix}/lib' '' \
 		'Name: lambukir' 'Description: S-63 user permits, cell permits, PERMIT.TXT files, product lists and the book of cell keys' 'Version: $(VERSION)' \
-		'Cflags: -I$${includedir}' 'Libs: -L$${libdir} -llambukir' >'$(DESTDIR)$(PREFIX)/lib/pkgconfig/lambukir.pc'
+		'Cflags: -I$${includedir}' 'Libs: -L$${libdir} -llambukir' | install -m 644 /dev/stdin '$(PLACE)/lib/pkgconfig/lambukir.pc'
+	install -m 644 README.md LICENSE '$(PLACE)/share/doc/lambukir'
+	install -m 644 $(wildcard sample/*.c sample/*.py) sample/PERMIT.TXT sample/PRODUCTS.TXT '$(PLACE)/share/doc/lambukir/sample'
+
+# What make lib builds is there, and of one build: the shared library comes last, and tests/prove gives a library the time 0 where a proof failed.
+# A source that is newer is told and no more, since a checkout or a copy of the tree makes sources newer that are as they were.
+# Where lib and install are asked for at once, lib comes first.
+built: $(filter lib,$(MAKECMDGOALS))
+	@[ "$$(find $(LIBRARY) $(HEADER) $(SHARED) -newermt @0 ! -newer $(SHARED) 2>/dev/null | wc -l)" -eq 3 ] || \
+		{ echo 'There is no library to install, or not all of one build: make lib comes first.' >&2; exit 1; }
+	@newer=$$(find crates.txt include/lambukir.h $(addprefix crates/,$(shell tests/crates lambukir)) \
+		-name must-fail -prune -o -type f -newer $(SHARED) -print | head -n 1); [ -z "$$newer" ] || echo "This installs what was built before $$newer changed." >&2
 
 # program and library in one count
 proved:
