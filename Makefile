@@ -68,7 +68,8 @@ built: $(filter lib,$(MAKECMDGOALS))
 	@[ "$$(find $(LIBRARY) $(HEADER) $(SHARED) -newermt @0 ! -newer $(SHARED) 2>/dev/null | wc -l)" -eq 3 ] || \
 		{ echo 'There is no library to install, or not all of one build: make lib comes first.' >&2; exit 1; }
 	@newer=$$(find crates.txt include/lambukir.h $(addprefix crates/,$(shell tests/crates lambukir)) \
-		-name must-fail -prune -o -type f -newer $(SHARED) -print | head -n 1); [ -z "$$newer" ] || echo "This installs what was built before $$newer changed." >&2
+		-name must-fail -prune -o -type f -newer $(SHARED) -print | head -n 1); \
+		[ -z "$$newer" ] || echo "This installs what was built before $$newer changed." >&2
 
 # program and library in one count
 proved:
