@@ -5,7 +5,6 @@ from ctypes import CDLL, POINTER, Structure, c_char, c_char_p, c_size_t, c_uint1
 library = CDLL(sys.argv[1] if len(sys.argv) > 1 else "liblambukir.so.0.6")
 
 # Slices, each a pointer and a length. Where the header says const, bytes may be lent as they are; where a call writes, a bytearray, by lend().
-# None would be NULL, which no call takes.
 CONST, OUT, QUOTAS = (c_char_p, c_size_t), (POINTER(c_char), c_size_t), (POINTER(c_uint16), c_size_t)
 BOOK_SIZE, USER_PERMIT_SIZE, LINE_SIZE, TENANTS = 12389, 28, 76, 16
 

@@ -4,25 +4,14 @@
 
 #include "lambukir.h"
 
-#define HW_ID 0x3132333438 /* 12348 */
-#define SERVER 0x4742      /* GB */
-
-/* A cell name as a number: the big-endian value of its eight characters. */
-static uint64_t name_of(const char *name)
-{
-    uint64_t number = 0;
-    for (int i = 0; i < 8; i++)
-        number = number << 8 | (uint8_t)name[i];
-    return number;
-}
-
 /* One line, with one of its characters changed where change is not 0. */
 static int put_line(const char *name, uint32_t expiry, uint32_t level, uint32_t edition, size_t change)
 {
-    uint8_t line[76];
-    uint64_t key = name_of(name) % 0x10000000000;
-    lambukir_written written = lambukir_write_line(HW_ID, name_of(name), expiry, key, key ^ 0x5A5A5A5A5A, level, edition, SERVER, line, sizeof line);
-    if (written.number != 0)
+    const uint64_t ship = lambukir_hw_id_from_text("12348", 5), cell = lambukir_name_from_text(name, strlen(name)), key = cell % 0x10000000000;
+    const uint32_t server = lambukir_code_from_text("GB", 2);
+    uint8_t line[LAMBUKIR_LINE_SIZE];
+    lambukir_written written = lambukir_write_line(ship, cell, expiry, key, key ^ 0x5A5A5A5A5A, level, edition, server, line, sizeof line);
+    if (written.number != LAMBUKIR_DONE)
         return 1;
     if (change != 0)
         line[change] = line[change] == '0' ? '1' : '0';

@@ -1,6 +1,7 @@
 /* Which charts of a ship are behind: each of its cells is held against the product list that its Data Server sent, a file that is named when it is run. */
 #include <inttypes.h>
 #include <stdio.h>
+#include <string.h>
 
 #include "lambukir.h"
 
@@ -16,24 +17,14 @@ static const struct {
     {"AR201130", 1, 1}, {"DE416080", 3, 9}, {"FR572410", 112, 3}, {"GB50184C", 7, 2}, {"NO4D0613", 10, 2}, {"US5NY1CM", 1, 0},
 };
 
-/* A cell name as a number: the big-endian value of its eight characters. */
-static uint64_t name_of(const char *cell)
-{
-    uint64_t number = 0;
-    for (int i = 0; i < 8; i++)
-        number = number << 8 | (uint8_t)cell[i];
-    return number;
-}
-
-static const char *meaning(lambukir_standing answer)
+static void tell(lambukir_standing answer)
 {
     static const char *const standings[] = {"up to date", "behind", "cancelled", "not listed"};
-    switch (answer.number) {
-    case 0: case 27: return standings[answer.standing];
-    case 12: return "the list has a bad header or row";
-    case 110: return "the list has two rows for one cell";
-    default: return "refused";
-    }
+    printf("%s", lambukir_is_success(answer.number) ? standings[answer.standing] : lambukir_meaning(answer.number).text);
+    if (answer.number == LAMBUKIR_DONE)
+        puts("");
+    else
+        printf(" (%" PRIu32 ")\n", answer.number);
 }
 
 int main(int arguments, char **argument)
@@ -50,12 +41,9 @@ int main(int arguments, char **argument)
     }
     fclose(file);
     for (size_t i = 0; i < sizeof on_board / sizeof *on_board; i++) {
-        lambukir_standing answer = lambukir_product_standing(list, length, name_of(on_board[i].cell), on_board[i].edition, on_board[i].update);
-        printf("%s, edition %" PRIu32 ", update %" PRIu32 ": %s", on_board[i].cell, on_board[i].edition, on_board[i].update, meaning(answer));
-        if (answer.number == 0)
-            puts("");
-        else
-            printf(" (%" PRIu32 ")\n", answer.number);
+        const char *cell = on_board[i].cell;
+        printf("%s, edition %" PRIu32 ", update %" PRIu32 ": ", cell, on_board[i].edition, on_board[i].update);
+        tell(lambukir_product_standing(list, length, lambukir_name_from_text(cell, strlen(cell)), on_board[i].edition, on_board[i].update));
     }
     return 0;
 }
