@@ -1,0 +1,168 @@
+/* What the header says of every call: an empty slice may be NULL, and a call takes so much stack at most. */
+#define _GNU_SOURCE /* pthread_attr_setstack */
+#include <pthread.h>
+#include <stdlib.h>
+
+#include "compare.h"
+#include "lambukir.h"
+
+#define HW_ID 0x3132333438
+#define NAME 0x4E4F344430363133
+#define TODAY 20240131
+#define EXPIRY 20240331
+
+/* Slices that every call takes. Which of them are lent as nothing is for the test to say. */
+typedef struct {
+    const uint8_t *bytes;
+    size_t length;
+} slice;
+
+enum { BOOK, REGISTER, PERMIT, LINE, LINES, LIST, IDS, KEY, TEXT, OUT, QUOTAS, SLICES };
+
+static uint8_t book[LAMBUKIR_BOOK_SIZE], out[LAMBUKIR_LINE_SIZE], permit[LAMBUKIR_USER_PERMIT_SIZE], line[LAMBUKIR_LINE_SIZE];
+static const char ids[] = "NODEA2A3A4A5A6A7A8A9B0B1B2B3B4B5";
+static const char list[] = ":DATE 20240131 09:30\r\n:VERSION 2\r\n:CONTENT FULL\r\n:ENC\r\n"
+                           "NO4D0613.000,20240101,10,,,,,,,,2,1,0,,B1,\r\nDE416080.000,20240101,3,,,,,,,,2,1,0,,B1,\r\n:ECS\r\n";
+static char file[200]; /* a permit file with that one line */
+static uint16_t quotas[LAMBUKIR_TENANTS] = {5};
+
+static void fill(slice s[SLICES])
+{
+    lambukir_open_book(book, sizeof book, quotas, LAMBUKIR_TENANTS, (const uint8_t *)ids, LAMBUKIR_IDS_SIZE);
+    lambukir_enter(book, sizeof book, 0, NAME, 10, 1, 2);
+    lambukir_make_user_permit((const uint8_t *)"0198765", 7, HW_ID, 0x3031, permit, sizeof permit);
+    lambukir_written written = lambukir_write_line(HW_ID, NAME, EXPIRY, 1, 2, 0, 10, 0x4742, line, sizeof line);
+    int length = snprintf(file, sizeof file, ":DATE 20240131 09:30\r\n:VERSION 2\r\n:ENC\r\n%.*s:ECS\r\n", (int)written.length, (const char *)line);
+    const slice all[SLICES] = {
+        [BOOK] = {book, sizeof book},
+        [REGISTER] = {(const uint8_t *)"0198765", 7},
+        [PERMIT] = {permit, sizeof permit},
+        [LINE] = {line, written.length - 2},
+        [LINES] = {(const uint8_t *)file, (size_t)length},
+        [LIST] = {(const uint8_t *)list, sizeof list - 1},
+        [IDS] = {(const uint8_t *)ids, LAMBUKIR_IDS_SIZE},
+        [KEY] = {(const uint8_t *)"98765", 5},
+        [TEXT] = {(const uint8_t *)"NO4D0613", 8},
+        [OUT] = {out, sizeof out},
+        [QUOTAS] = {(const uint8_t *)quotas, LAMBUKIR_TENANTS},
+    };
+    memcpy(s, all, sizeof all);
+}
+
+#define LENT(which) s[which].bytes, s[which].length
+#define WRITTEN(which) (uint8_t *)s[which].bytes, s[which].length
+#define LENT_TEXT (const char *)s[TEXT].bytes, s[TEXT].length
+
+/* Every function that takes a slice, each once; what one answers is told as one number. */
+#define CALLS 22
+
+static uint64_t call(int which, const slice s[SLICES])
+{
+    switch (which) {
+    case 0: return lambukir_make_user_permit(LENT(REGISTER), HW_ID, 0x3031, WRITTEN(OUT));
+    case 1: return lambukir_read_user_permit(LENT(REGISTER), LENT(PERMIT)).number;
+    case 2: return lambukir_read_line(HW_ID, TODAY, 30, LENT(LINE)).number;
+    case 3: return lambukir_comment(LENT(LINE)).start;
+    case 4: return lambukir_write_line(HW_ID, NAME, EXPIRY, 1, 2, 0, 10, 0x4742, WRITTEN(OUT)).number;
+    case 5: return lambukir_open_file(LENT(LINES)).number;
+    case 6: return lambukir_read_file_line(HW_ID, TODAY, 30, LENT(LINES), 40).number;
+    case 7: return lambukir_product_standing(LENT(LIST), NAME, 10, 0).number;
+    case 8: return lambukir_withdraw(WRITTEN(BOOK), 0, NAME);
+    case 9: return lambukir_set_days(WRITTEN(BOOK), 0, 60);
+    case 10: return lambukir_enter(WRITTEN(BOOK), 0, NAME, 11, 3, 4);
+    case 11: return lambukir_ask_edition(LENT(BOOK), 0, NAME).number;
+    case 12: return lambukir_issue(LENT(BOOK), LENT(REGISTER), 0, NAME, EXPIRY, 0, LENT(PERMIT), WRITTEN(OUT)).number;
+    case 13: return lambukir_check(LENT(BOOK), 0, HW_ID, TODAY, LENT(LINE)).number;
+    case 14: return lambukir_crc32(LENT(LINES));
+    case 15: return lambukir_encipher_block(LENT(KEY), 1).number;
+    case 16: return lambukir_decipher_block(LENT(KEY), 1).number;
+    case 17: return lambukir_open_book(WRITTEN(BOOK), (const uint16_t *)(const void *)s[QUOTAS].bytes, s[QUOTAS].length, LENT(IDS));
+    case 18: return lambukir_name_from_text(LENT_TEXT);
+    case 19: return lambukir_hw_id_from_text(LENT_TEXT) | lambukir_code_from_text(LENT_TEXT);
+    case 20: return lambukir_key_from_hex(LENT_TEXT);
+    default: return lambukir_date_from_text(LENT_TEXT);
+    }
+}
+
+/* Each call with each set of one or two slices empty: NULL answers as a place that has no byte. */
+static void nothing(void)
+{
+    static const uint16_t nowhere[1] = {0};
+    for (int which = 0; which < CALLS; which++)
+        for (int first = 0; first < SLICES; first++)
+            for (int second = 0; second < SLICES; second++) {
+                slice s[SLICES];
+                fill(s);
+                s[first] = s[second] = (slice){(const uint8_t *)nowhere, 0};
+                uint64_t theirs = call(which, s);
+                fill(s);
+                s[first] = s[second] = (slice){NULL, 0};
+                same(call(which, s), theirs, "call %d with slices %d and %d NULL, against empty ones", which, first, second);
+            }
+}
+
+/* How far down a call goes: the lowest byte of a thread's stack that is no longer what it was filled with. */
+#define STACK (4u << 20)
+#define FILLED 0xA5
+
+typedef struct {
+    int which; /* -1 for none */
+    const slice *slices;
+    uint64_t answer;
+} job;
+
+static void *work(void *given)
+{
+    job *j = given;
+    if (j->which >= 0)
+        j->answer = call(j->which, j->slices);
+    return NULL;
+}
+
+static size_t stack_of(int which, const slice s[SLICES])
+{
+    static uint8_t *stack;
+    if (!stack)
+        stack = aligned_alloc(4096, STACK);
+    job j = {which, s, 0};
+    pthread_t thread;
+    pthread_attr_t attributes;
+    memset(stack, FILLED, STACK);
+    pthread_attr_init(&attributes);
+    if (pthread_attr_setstack(&attributes, stack, STACK) != 0 || pthread_create(&thread, &attributes, work, &j) != 0)
+        return STACK;
+    pthread_join(thread, NULL);
+    pthread_attr_destroy(&attributes);
+    size_t untouched = 0;
+    while (untouched < STACK && stack[untouched] == FILLED)
+        untouched++;
+    return STACK - untouched;
+}
+
+/* At most 6 KiB, but for a product list whose names do not rise, as these do not: 600 KiB. */
+static void stack_taken(void)
+{
+    slice s[SLICES];
+    fill(s);
+    size_t idle = stack_of(-1, s), most = 0;
+    for (int which = 0; which < CALLS; which++) {
+        fill(s);
+        size_t taken = stack_of(which, s) - idle;
+        same(taken <= (which == 7 ? 600 : 6) << 10, 1, "call %d takes %zu bytes of stack", which, taken);
+        if (which != 7 && taken > most)
+            most = taken;
+        if (which == 7)
+            printf("  a product list out of order takes %zu bytes of stack\n", taken);
+    }
+    printf("  the other calls take at most %zu\n", most);
+    same(most > 4096, 1, "a key's words were seen on the stack");
+}
+
+int main(int argc, char **argv)
+{
+    static const subject subjects[] = {
+        {"lending-nothing", nothing},
+        {"lending-stack", stack_taken},
+    };
+    return run_subjects(subjects, sizeof subjects / sizeof *subjects, argc, argv);
+}
