@@ -72,13 +72,13 @@ module _ (test : ℕ → Bool) (n : ℕ) (bytes : (t : List ℕ) → allOf test 
 
   identifiers-back : ThereAndBack (isText test n) (isWord test n) (isWord test n) (identifierFrom test n) (identifierTo test n)
   identifiers-back =
-      ((λ t. either (isWord test n t) (λ word. (ap (isText test n) (value t word) ∙ taken t word) ∙ sym word) (λ miss. other t miss ∙ sym miss)), (back, again))
+      ((λ t. either (isWord test n t) (λ word. (ap (isText test n) (value t word) ∙ taken t word) ∙ sym word) (λ miss. other t miss ∙ sym miss)), back, again)
 
 letter-name : (c : ℕ) → between 65 70 c ≡ true → between 65 90 c ≡ true
 letter-name c is = rw (le-leb 65 c (between-low 65 70 c is), le-leb c 90 (omega (arith, between-high 65 70 c is)))
 
 -- hex characters are among those of names
-hex-names : (t : List ℕ) → allOf isUpperHex t ≡ true → allOf isNameCharacter t ≡ true
+pub hex-names : (t : List ℕ) → allOf isUpperHex t ≡ true → allOf isNameCharacter t ≡ true
 unfolding isUpperHex isNameCharacter
 hex-names t all =
     all-weaken isUpperHex isNameCharacter
@@ -129,7 +129,7 @@ key-again x is =
 
 pub keys-back : KeysBack
 keys-back =
-    ((λ t. either (isWord isHex 10 t) (λ word. (ap isCellKey (key-value t word) ∙ key-small t word) ∙ sym word) (λ miss. key-other t miss ∙ sym miss)), (key-back, key-again))
+    ((λ t. either (isWord isHex 10 t) (λ word. (ap isCellKey (key-value t word) ∙ key-small t word) ∙ sym word) (λ miss. key-other t miss ∙ sym miss)), key-back, key-again)
 
 -- eight digits that are a date
 module _ (t : List ℕ) (word : isDateWord t ≡ true) where
@@ -166,4 +166,4 @@ date-again x is =
 
 pub dates-back : DatesBack
 dates-back =
-    ((λ t. either (isDateWord t) (λ word. (ap isDate (date-value t word) ∙ date-good t word) ∙ sym word) (λ miss. date-other t miss ∙ sym miss)), (date-back, date-again))
+    ((λ t. either (isDateWord t) (λ word. (ap isDate (date-value t word) ∙ date-good t word) ∙ sym word) (λ miss. date-other t miss ∙ sym miss)), date-back, date-again)

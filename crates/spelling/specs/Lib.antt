@@ -1,3 +1,4 @@
 pub mod Spelling
 pub mod Meanings
 pub mod ThereAndBack
+pub mod Ends

@@ -22,7 +22,7 @@ ValueBack isValue from to = (x : ℕ) → isValue x ≡ true → from (to x) ≡
 
 -- all three; the text that is written may be one of several that are read
 abbrev pub ThereAndBack : (ℕ → Bool) → (List ℕ → Bool) → (List ℕ → Bool) → (List ℕ → ℕ) → (ℕ → List ℕ) → Type 0
-ThereAndBack isValue isRead isWritten from to = TakenExactly isValue isRead from × (TextBack isWritten from to × ValueBack isValue from to)
+ThereAndBack isValue isRead isWritten from to = TakenExactly isValue isRead from × TextBack isWritten from to × ValueBack isValue from to
 
 -- cell names
 abbrev pub NamesBack : Type 0
