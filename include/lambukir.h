@@ -4,8 +4,9 @@
    lists (PRODUCTS.TXT), with the cipher and the checksum that permits are made
    of, and the book of cell keys that sixteen agents share.
 
-   Link with liblambukir.so or liblambukir.a. Both need the C library and
-   nothing else, and both are for x86-64 Linux.
+   Link with liblambukir.so or liblambukir.a: pkg-config has the flags, under the
+   name lambukir. Both need the C library and nothing else, and both are for
+   x86-64 Linux.
 
    Calls
 
@@ -18,7 +19,7 @@
 
    A call takes a microsecond or two, and some 35 more for each key of the
    cipher that it has to set up: where it does, it says "one key set-up". Only
-   a product list takes longer, and says how long.
+   what goes through a long slice takes longer: a CRC-32, a product list.
 
    Slices
 
@@ -195,8 +196,8 @@ lambukir_meaning(uint32_t number);
 /* From text to value, and nothing but exactly the form is taken: no character
    more or less, none of another alphabet, no blank. The text need have no NUL.
    Of anything else the value is 0, which is no identifier and no date, and of a
-   key it is LAMBUKIR_NO_KEY, which is none. Every call refuses these, so that a
-   wrong text is refused even where nobody asks.
+   key it is LAMBUKIR_NO_KEY, which is no key. Every call refuses these, so that
+   a wrong text is refused even where nobody asks.
 
      name    eight of A-Z 0-9: a cell name
      hw_id   five of 0-9 A-F
@@ -220,8 +221,8 @@ lambukir_key_from_hex(const char *text, size_t length);
 uint32_t
 lambukir_date_from_text(const char *text, size_t length);
 
-/* And back: the text that gives this value, and of a number that is none the
-   empty text. */
+/* And back: the text that gives this value, and of a number that is not of the
+   form the empty text. */
 lambukir_text
 lambukir_name_to_text(uint64_t name);
 
@@ -259,8 +260,8 @@ typedef struct {
   uint32_t number;
 } lambukir_user_permit;
 
-/* Reads a user permit: its HW_ID and its M_ID, and number 0. One key set-up,
-   but none before 109, 106, 17 and 107.
+/* Reads a user permit: its HW_ID and its M_ID, and number 0. One key set-up;
+   none where the answer is 109, 106, 17 or 107.
 
    Refusals, in this order: 109, 106, 17, 107, 18. */
 lambukir_user_permit
@@ -291,7 +292,8 @@ typedef struct {
 } lambukir_line;
 
 /* Reads one line, given without its CR LF, for the HW_ID it was made for. days
-   is the warning days, 1 to 90. One key set-up, but none before 12.
+   is the warning days, 1 to 90. One key set-up; none where the answer is 18,
+   14, 103 or 12.
 
    A line that was written or issued ends with CR LF: it is read with two bytes
    less than its length. With them it is 12.
@@ -608,7 +610,8 @@ lambukir_issue(const uint8_t *book, size_t book_length,
 
 /* Reads one line, given without its CR LF, as lambukir_read_line does, with the
    tenant's own warning days. The line need not be one that the tenant issued,
-   and its Data Server ID may be another. One key set-up, but none before 12.
+   and its Data Server ID may be another. One key set-up; none where the answer
+   is 101, 102, 18, 14 or 12.
 
    Refusals, in this order: 101; 102; 18; 14; 12; 13; 21. */
 lambukir_line
