@@ -213,7 +213,7 @@ lambukir_hw_id_from_text(const char *text, size_t length);
 uint32_t
 lambukir_code_from_text(const char *text, size_t length);
 
-#define LAMBUKIR_NO_KEY ((uint64_t)-1)
+#define LAMBUKIR_NO_KEY 0xFFFFFFFFFFFFFFFF
 
 uint64_t
 lambukir_key_from_hex(const char *text, size_t length);
