@@ -148,7 +148,10 @@
 #define LAMBUKIR_REGISTER_DAMAGED 109 /* the register is damaged */
 #define LAMBUKIR_CELL_TWICE 110       /* a cell has two rows in the product list */
 
-/* Of a record 0 says that its permit is current. */
+/* Of a record 0 says that its permit is current. 12 is also for a date in a line,
+   row or header that is none; 18 for a HW_ID that was given, or that a user
+   permit holds; with 21 the check part is right. Each function says of which
+   values it gives 103, and for how short an output 108. */
 #define LAMBUKIR_CURRENT LAMBUKIR_DONE
 
 /* Sizes, in bytes where nothing else is said. */
@@ -511,14 +514,15 @@ lambukir_product_standing(const uint8_t *list, size_t list_length,
    Every call but lambukir_open_book judges the whole book first, which takes a
    microsecond or two where it is full. One of another length, or with a byte
    that no book can have, is 101. What is judged is the form: a book in which a
-   key was changed is another good book, and its lines unlock nothing.
+   key was changed is another good book, and the lines that are issued from it
+   unlock nothing.
 
    How to keep a book (sample/keep.c does all of this)
 
    - Open it once, by lambukir_open_book, and never call that on a book that was
      read from the disk: it erases.
-   - Calls whose book is const may run side by side on one book; any other call
-     on it runs alone, while no other call on that book does.
+   - Calls whose book is const may run side by side on one book; a call that
+     writes it runs alone.
    - Where several programs change one book in a file, each takes a lock (flock)
      before it reads the file and holds it until the new one is saved. Lock a
      file of its own beside the book, and not the book's: a rename puts another
