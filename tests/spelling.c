@@ -180,17 +180,22 @@ static void dates(void)
             }
 }
 
-/* The header's table of numbers: after each a comment, which is its meaning. */
-static size_t read_table(uint32_t *numbers, char texts[][80], size_t most)
+#define ROWS 100
+
+/* The header's table of numbers: after each a comment, which is its meaning. It ends at the first line that has none. */
+static size_t read_table(uint32_t numbers[ROWS], char texts[ROWS][80])
 {
     char line[200];
     size_t count = 0;
     FILE *header = fopen("target/include/lambukir.h", "r");
-    while (header && fgets(line, sizeof line, header) && count < most) {
-        if (sscanf(line, "#define LAMBUKIR_%*s %" SCNu32 " /* %79[^*]", &numbers[count], texts[count]) == 2)
-            texts[count][strlen(texts[count]) - 1] = 0, count++;
-        else if (count > 0)
+    while (header && count < ROWS && fgets(line, sizeof line, header)) {
+        int found = sscanf(line, "#define LAMBUKIR_%*s %" SCNu32 " /* %79[^*]", &numbers[count], texts[count]);
+        if (found != 2 && count > 0)
             break;
+        if (found == 2) {
+            texts[count][strlen(texts[count]) - 1] = 0; /* the blank before the comment's end */
+            count++;
+        }
     }
     if (header)
         fclose(header);
@@ -199,17 +204,19 @@ static size_t read_table(uint32_t *numbers, char texts[][80], size_t most)
 
 static void meanings(void)
 {
-    static uint32_t numbers[100];
-    static char texts[100][80];
-    size_t count = read_table(numbers, texts, 100);
+    static uint32_t numbers[ROWS];
+    static char texts[ROWS][80];
+    size_t count = read_table(numbers, texts);
     same(count >= 21 && numbers[0] == 0, 1, "the header's table, which begins with 0");
     for (uint32_t number = 0; number < 100000; number++) {
-        char theirs[LAMBUKIR_TEXT_SIZE] = "a number that no call gives";
+        const char *words = "a number that no call gives";
         for (size_t i = 0; i < count; i++)
             if (numbers[i] == number)
-                memset(theirs, 0, sizeof theirs), strcpy(theirs, texts[i]);
+                words = texts[i];
+        char theirs[LAMBUKIR_TEXT_SIZE] = {0};
+        memcpy(theirs, words, strnlen(words, sizeof theirs));
         lambukir_text ours = lambukir_meaning(number);
-        same((uint64_t)memcmp(ours.text, theirs, sizeof theirs) != 0, 0, "the meaning of %" PRIu32 ", %.*s, and in the header %s", number, 64, ours.text, theirs);
+        same((uint64_t)memcmp(ours.text, theirs, sizeof theirs) != 0, 0, "the meaning of %" PRIu32 ", %.*s, and in the header %s", number, 64, ours.text, words);
         same(lambukir_is_success(number), number == 0 || number == 15 || number == 20 || number == 27, "%" PRIu32 " is success", number);
     }
     same(lambukir_is_success(UINT32_MAX), 0, "the last number is success");
