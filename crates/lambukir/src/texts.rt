@@ -1,10 +1,9 @@
 // Values as text, and numbers in words, for C.
 ghost use mathlib.Core.Path.{_≡_};
 ghost use Rattle.spelling.specs.Spelling.{nameFrom, hwIdFrom, codeFrom, keyFrom, dateFrom, nameTo, hwIdTo, codeTo, keyTo, dateTo};
-ghost use Rattle.spelling.specs.Meanings.{isSuccess, meaningOf};
+ghost use Rattle.meanings.specs.Meanings.{isSuccess, meaningOf};
 ghost use Rattle.lambukir.specs.Texts.{version, oneIf, textFor};
 use spelling::from_text;
-use spelling::meanings;
 use spelling::to_text;
 
 // lambukir_text of the header.

@@ -1,19 +1,17 @@
 -- Every text that C gets ends with a zero, and has none before it.
 -- Assumes nothing.
 use mathlib.Core.Path.{_≡_, refl, ap, _∙_}
-use mathlib.Core.Bool.{Bool, true, not, _&&_}
+use mathlib.Core.Bool.{Bool, true, not}
 use mathlib.Core.List.{List, [], _∷_, _++_}
 use Prim.Native.Nat.{ℕ, zero, suc, _<_}
-use Prim.Native.String.{String}
 use native.Mathlib.Omega.{arith}
-use borrow.Author.Tests.{ltb-true, ne-eqb, not-true}
-use lib.Dec.{eqb, ltb}
+use borrow.Author.Tests.{ne-eqb, not-true}
+use lib.Dec.{eqb}
 use lib.ListN.{length, drop, replicate}
 use Rattle.bytes.specs.Numbers.{bytesOf}
 use Rattle.bytes.specs.Every.{allOf}
 use Rattle.bytes.proofs.Digits.{digits-length}
-use Rattle.bytes.proofs.Every.{either, and-first, and-second, all-first, all-rest, all-weaken}
-use Rattle.text.specs.Ascii.{ascii}
+use Rattle.bytes.proofs.Every.{either, all-first, all-rest, all-weaken}
 use Rattle.text.specs.Characters.{isDigit, isUpperHex, isNameCharacter, hexText, decimalText}
 use Rattle.text.proofs.Alphabets as alphabets
 use Rattle.text.proofs.Notations.{hex, decimal, digit-low, between-low}
@@ -22,12 +20,11 @@ use Rattle.dates.specs.Calendar.{isDate}
 use Rattle.forms.specs.Identifiers.{isText, isCellKey}
 use Rattle.forms.proofs.Fits.{text-all}
 use Rattle.spelling.specs.Spelling.{identifierTo, keyTo, dateTo, spelled}
-use Rattle.spelling.specs.Meanings.{rows, meaningBy, meaningOf}
-use Rattle.spelling.specs.Ends.{untilZero, ReadByC, EveryTextEnds}
+use Rattle.spelling.specs.Ends.{untilZero, ReadByC, TextsEnd}
 use Rattle.spelling.proofs.Backs.{hex-names}
 
 -- not the byte that ends a text
-unfoldable isPlain : ℕ → Bool
+unfoldable pub isPlain : ℕ → Bool
 isPlain c = not (eqb c 0)
 
 zeros-end : (n k : ℕ) → untilZero (drop k (replicate n 0)) ≡ []
@@ -44,10 +41,10 @@ text-then (c ∷ t) rest all ends =
     rw (not-true (eqb c 0) (all-first isPlain c t all)) (ap (λ (s : List ℕ). c ∷ s) (text-then t rest (all-rest isPlain c t all) ends))
 
 -- a text that may be handed out: short, and of plain bytes
-abbrev Fine : List ℕ → Type 0
+abbrev pub Fine : List ℕ → Type 0
 Fine t = (length t < 64) × (allOf isPlain t ≡ true)
 
-fine-read : (t : List ℕ) → Fine t → (length t < 64) × (untilZero (spelled t) ≡ t)
+pub fine-read : (t : List ℕ) → Fine t → (length t < 64) × (untilZero (spelled t) ≡ t)
 fine-read t (short, all) =
     (short, ap untilZero (placed-start t (replicate 64 0) (omega (arith, short))) ∙ text-then t (drop (length t) (replicate 64 0)) all (zeros-end 64 (length t)))
 
@@ -98,30 +95,11 @@ dates-read x =
     (λ is. rw is (rw (alphabets.text-length decimal 8 x) (omega arith), digits-plain (decimalText 8 x) (alphabets.text-written decimal 8 x)))
     (λ none. rw none nothing-fine))
 
--- the rows' texts, all of them tested at once
-unfoldable areFine : List (ℕ × String) → Bool
-areFine [] = true
-areFine ((m, t) ∷ more) = ltb (length (ascii t)) 64 && (allOf isPlain (ascii t) && areFine more)
-
-meaning-fine : (more : List (ℕ × String)) (n : ℕ) → areFine more ≡ true → Fine (meaningBy more n)
-unfolding meaningBy areFine isPlain allOf
-meaning-fine [] n fine = (omega arith, refl)
-meaning-fine ((m, t) ∷ more) n fine =
-    let rest = and-second (ltb (length (ascii t)) 64) (allOf isPlain (ascii t) && areFine more) fine in
-    either (eqb n m)
-    (λ is. rw is (ltb-true (length (ascii t)) 64 (and-first (ltb (length (ascii t)) 64) _ fine), and-first (allOf isPlain (ascii t)) (areFine more) rest))
-    (λ miss. rw miss (meaning-fine more n (and-second (allOf isPlain (ascii t)) (areFine more) rest)))
-
-meanings-read : ReadByC meaningOf
-unfolding areFine isPlain allOf
-meanings-read n = fine-read (meaningOf n) (meaning-fine rows n refl)
-
-pub every-text-ends : EveryTextEnds
-every-text-ends = (
+pub texts-end : TextsEnd
+texts-end = (
   identifiers-read isNameCharacter names-plain 8 (omega arith),
   identifiers-read isUpperHex hex-plain 5 (omega arith),
   identifiers-read isNameCharacter names-plain 2 (omega arith),
   keys-read,
   dates-read,
-  meanings-read,
 )

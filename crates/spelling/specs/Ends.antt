@@ -6,7 +6,6 @@ use Prim.Native.Nat.{ℕ, _<_}
 use lib.Dec.{eqb}
 use lib.ListN.{length}
 use Rattle.spelling.specs.Spelling.{nameTo, hwIdTo, codeTo, keyTo, dateTo, spelled}
-use Rattle.spelling.specs.Meanings.{meaningOf}
 
 -- the bytes before the first zero
 unfoldable pub untilZero : List ℕ → List ℕ
@@ -17,6 +16,6 @@ untilZero (c ∷ s) = cond (eqb c 0) [] (c ∷ untilZero s)
 abbrev pub ReadByC : (ℕ → List ℕ) → Type 0
 ReadByC to = (x : ℕ) → (length (to x) < 64) × (untilZero (spelled (to x)) ≡ to x)
 
--- so it is of every text
-abbrev pub EveryTextEnds : Type 0
-EveryTextEnds = ReadByC nameTo × ReadByC hwIdTo × ReadByC codeTo × ReadByC keyTo × ReadByC dateTo × ReadByC meaningOf
+-- so it is of every value's text
+abbrev pub TextsEnd : Type 0
+TextsEnd = ReadByC nameTo × ReadByC hwIdTo × ReadByC codeTo × ReadByC keyTo × ReadByC dateTo

@@ -1,4 +1,3 @@
 pub mod Spelling
-pub mod Meanings
 pub mod ThereAndBack
 pub mod Ends

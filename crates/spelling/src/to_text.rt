@@ -6,7 +6,7 @@ ghost use Rattle.spelling.specs.Spelling.{nameTo, hwIdTo, codeTo, keyTo,
 const NOTHING: [u8; 64] = [0; 64];
 
 // A text at the start of zeros.
-pub(crate) fn spelled(text: &[u8]) -> [u8; 64]
+pub fn spelled(text: &[u8]) -> [u8; 64]
     ensures { λ r. ⌜ r ≡ spelled (now (text .entry)) ⌝ }
 {
     let mut out = [0u8; 64];

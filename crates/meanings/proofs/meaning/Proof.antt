@@ -1,14 +1,14 @@
--- `spelling::meanings::meaning` meets its contract. Each number has its row.
+-- `meanings::meaning` meets its contract. Each number has its row.
 -- Assumes nothing.
 use mathlib.Core.Path.{sym, ap, _∙_}
 use mathlib.Core.List.{List}
 use Prim.Native.Nat.{ℕ}
 use borrow.Author.Needs.{needs}
 use Rattle.spelling.specs.Spelling.{spelled}
-use Rattle.spelling.specs.Meanings.{rows, meaningBy, meaningOf}
-use Rattle.spelling.proofs.Rows.{all-missed}
-use Rattle.spelling.proofs.meanings.meaning.Statement.{statement}
-use Rattle.spelling.proofs.meanings.meaning.Tie as tie
+use Rattle.meanings.specs.Meanings.{rows, meaningBy, meaningOf}
+use Rattle.meanings.proofs.Rows.{all-missed}
+use Rattle.meanings.proofs.meaning.Statement.{statement}
+use Rattle.meanings.proofs.meaning.Tie as tie
 
 -- what C gets of a number's meaning
 abbrev meant : ℕ → List ℕ

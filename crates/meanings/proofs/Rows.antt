@@ -5,7 +5,7 @@ use mathlib.Core.List.{List, [], _∷_}
 use Prim.Native.Nat.{ℕ}
 use Prim.Native.String.{String}
 use borrow.Author.Tests.{ne-eqb}
-use Rattle.spelling.specs.Meanings.{meaningBy}
+use Rattle.meanings.specs.Meanings.{meaningBy}
 
 -- what a match knows of a number in its last arm: it is none of the rows' numbers
 abbrev pub Missed : Type 0 → List (ℕ × String) → ℕ → Type 0

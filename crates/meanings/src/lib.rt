@@ -1,8 +1,8 @@
 // What a number that comes back means, in a few words, and whether it is success.
 ghost use mathlib.Core.Path.{_≡_};
 ghost use Rattle.spelling.specs.Spelling.{spelled};
-ghost use Rattle.spelling.specs.Meanings.{isSuccess, meaningOf};
-use super::to_text::spelled;
+ghost use Rattle.meanings.specs.Meanings.{isSuccess, meaningOf};
+use spelling::to_text::spelled;
 
 // Done, or a record or a cell: each other number is a refusal.
 pub fn is_success(number: u32) -> bool

@@ -1,9 +1,9 @@
--- `spelling::meanings::is_success` meets its contract. Each number that is success, and none else.
+-- `meanings::is_success` meets its contract. Each number that is success, and none else.
 -- Assumes nothing.
 use borrow.Author.Tests.{ne-eqb}
-use Rattle.spelling.specs.Meanings.{isSuccess}
-use Rattle.spelling.proofs.meanings.is_success.Statement.{statement}
-use Rattle.spelling.proofs.meanings.is_success.Tie as tie
+use Rattle.meanings.specs.Meanings.{isSuccess}
+use Rattle.meanings.proofs.is_success.Statement.{statement}
+use Rattle.meanings.proofs.is_success.Tie as tie
 
 returns : tie.Need-returns
 unfolding isSuccess
