@@ -198,15 +198,20 @@ lambukir_meaning(uint32_t number);
 
 /* From text to value, and nothing but exactly the form is taken: no character
    more or less, none of another alphabet, no blank. The text need have no NUL.
-   Of anything else the value is 0, which is no identifier and no date, and of a
-   key it is LAMBUKIR_NO_KEY, which is no key. Every call refuses these, so that
-   a wrong text is refused even where nobody asks.
+   Of anything else the value is all ones, LAMBUKIR_NO_NAME and so on, which
+   every call refuses, so that a wrong text is refused even where nobody asks.
 
      name    eight of A-Z 0-9: a cell name
      hw_id   five of 0-9 A-F
      code    two of A-Z 0-9: an M_ID or a Data Server ID
      key     ten of 0-9 A-F: the five bytes of a cell key in hex
      date    eight digits YYYYMMDD that are a date */
+#define LAMBUKIR_NO_NAME 0xFFFFFFFFFFFFFFFF
+#define LAMBUKIR_NO_HW_ID 0xFFFFFFFFFFFFFFFF
+#define LAMBUKIR_NO_CODE 0xFFFFFFFF
+#define LAMBUKIR_NO_KEY 0xFFFFFFFFFFFFFFFF
+#define LAMBUKIR_NO_DATE 0xFFFFFFFF
+
 uint64_t
 lambukir_name_from_text(const char *text, size_t length);
 
@@ -215,8 +220,6 @@ lambukir_hw_id_from_text(const char *text, size_t length);
 
 uint32_t
 lambukir_code_from_text(const char *text, size_t length);
-
-#define LAMBUKIR_NO_KEY 0xFFFFFFFFFFFFFFFF
 
 uint64_t
 lambukir_key_from_hex(const char *text, size_t length);

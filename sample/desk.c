@@ -15,7 +15,7 @@ static uint8_t book[LAMBUKIR_BOOK_SIZE]; /* keep.c keeps one in a file */
 static const uint8_t reg[] = "0198765";  /* who makes bridge equipment: manufacturer 01 has the key 98765 */
 static const char *const agents[] = {"Oslo", "Hamburg"};
 
-/* 0 for a text that is no cell name, which every call refuses. */
+/* A text that is no cell name gives a number that every call refuses. */
 static uint64_t name_of(const char *cell)
 {
     return lambukir_name_from_text(cell, strlen(cell));

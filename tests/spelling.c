@@ -40,11 +40,11 @@ static lambukir_text date_to(uint64_t date)
     return lambukir_date_to_text((uint32_t)date);
 }
 
-static const form name = {"name", NAME, 8, 256, 0, lambukir_name_from_text, lambukir_name_to_text};
-static const form hw_id = {"HW_ID", HEX, 5, 256, 0, lambukir_hw_id_from_text, lambukir_hw_id_to_text};
-static const form code = {"code", NAME, 2, 256, 0, code_from, code_to};
-static const form key = {"key", HEX, 10, 16, UINT64_MAX, lambukir_key_from_hex, lambukir_key_to_hex};
-static const form date = {"date", "0123456789", 8, 10, 0, date_from, date_to};
+static const form name = {"name", NAME, 8, 256, LAMBUKIR_NO_NAME, lambukir_name_from_text, lambukir_name_to_text};
+static const form hw_id = {"HW_ID", HEX, 5, 256, LAMBUKIR_NO_HW_ID, lambukir_hw_id_from_text, lambukir_hw_id_to_text};
+static const form code = {"code", NAME, 2, 256, LAMBUKIR_NO_CODE, code_from, code_to};
+static const form key = {"key", HEX, 10, 16, LAMBUKIR_NO_KEY, lambukir_key_from_hex, lambukir_key_to_hex};
+static const form date = {"date", "0123456789", 8, 10, LAMBUKIR_NO_DATE, date_from, date_to};
 
 /* Whether the C library's calendar gives a day back as it is. */
 static int is_day(uint64_t number)

@@ -20,7 +20,7 @@ use Rattle.dates.specs.Calendar.{year, within, isDate}
 use Rattle.dates.proofs.Parts.{date-fits}
 use Rattle.forms.specs.Identifiers.{isText, isCellKey}
 use Rattle.forms.proofs.Fits.{text-fits, text-all}
-use Rattle.spelling.specs.Spelling.{isWord, identifierFrom, identifierTo, keyFrom, keyTo, isDateWord, dateFrom, dateTo}
+use Rattle.spelling.specs.Spelling.{isWord, none64, none32, identifierFrom, identifierTo, keyFrom, keyTo, isDateWord, dateFrom, dateTo}
 use Rattle.spelling.specs.ThereAndBack.{ThereAndBack, NamesBack, HwIdsBack, CodesBack, KeysBack, DatesBack}
 use Rattle.spelling.proofs.Words.{word-length}
 
@@ -32,8 +32,8 @@ pub made-word : (test : ℕ → Bool) (n : ℕ) (t : List ℕ) → length t ≡ 
 unfolding isWord
 made-word test n t same all = rw (eq-eqb (length t) n same, all)
 
--- identifiers of one form: those of so many characters that pass the test, if these are bytes and 0 is none
-module _ (test : ℕ → Bool) (n : ℕ) (bytes : (t : List ℕ) → allOf test t ≡ true → Below 256 t) (none : isText test n 0 ≡ false) where
+-- identifiers of one form: those of so many characters that pass the test, if these are bytes and what another text gives is none
+module _ (none : ℕ) (test : ℕ → Bool) (n : ℕ) (bytes : (t : List ℕ) → allOf test t ≡ true → Below 256 t) (is-none : isText test n none ≡ false) where
   -- of a text of the form
   module _ (t : List ℕ) (word : isWord test n t ≡ true) where
     below : Below 256 t
@@ -45,7 +45,7 @@ module _ (test : ℕ → Bool) (n : ℕ) (bytes : (t : List ℕ) → allOf test 
     bytes-back : bytesOf n (bytesNumber t) ≡ t
     bytes-back = rw same at (digits-value t below)
 
-    value : identifierFrom test n t ≡ bytesNumber t
+    value : identifierFrom none test n t ≡ bytesNumber t
     unfolding identifierFrom
     value = rw word
 
@@ -55,22 +55,22 @@ module _ (test : ℕ → Bool) (n : ℕ) (bytes : (t : List ℕ) → allOf test 
         let fits : bytesNumber t < 256 ^ n = rw same at (value-below t below) in
         rw (lt-ltb (bytesNumber t) (256 ^ n) fits, bytes-back) (word-all test n t word)
 
-    back : identifierTo test n (identifierFrom test n t) ≡ t
+    back : identifierTo test n (identifierFrom none test n t) ≡ t
     unfolding identifierTo
     back = rw (value, taken) bytes-back
 
-  other : (t : List ℕ) → isWord test n t ≡ false → isText test n (identifierFrom test n t) ≡ false
+  other : (t : List ℕ) → isWord test n t ≡ false → isText test n (identifierFrom none test n t) ≡ false
   unfolding identifierFrom
-  other t miss = rw miss none
+  other t miss = rw miss is-none
 
-  again : (x : ℕ) → isText test n x ≡ true → identifierFrom test n (identifierTo test n x) ≡ x
+  again : (x : ℕ) → isText test n x ≡ true → identifierFrom none test n (identifierTo test n x) ≡ x
   unfolding identifierTo
   again x is =
       rw is
       (value (bytesOf n x) (made-word test n (bytesOf n x) (digits-length 256 n x) (text-all test n x is))
       ∙ value-digits-fit 256 n x (omega arith) (text-fits test n x is))
 
-  identifiers-back : ThereAndBack (isText test n) (isWord test n) (isWord test n) (identifierFrom test n) (identifierTo test n)
+  identifiers-back : ThereAndBack (isText test n) (isWord test n) (isWord test n) (identifierFrom none test n) (identifierTo test n)
   identifiers-back =
       ((λ t. either (isWord test n t) (λ word. (ap (isText test n) (value t word) ∙ taken t word) ∙ sym word) (λ miss. other t miss ∙ sym miss)), back, again)
 
@@ -87,15 +87,15 @@ hex-names t all =
 
 pub names-back : NamesBack
 unfolding isText digits allOf isNameCharacter isDigit
-names-back = identifiers-back isNameCharacter 8 names-below refl
+names-back = identifiers-back none64 isNameCharacter 8 names-below refl
 
 pub codes-back : CodesBack
 unfolding isText digits allOf isNameCharacter isDigit
-codes-back = identifiers-back isNameCharacter 2 names-below refl
+codes-back = identifiers-back none32 isNameCharacter 2 names-below refl
 
 pub hw-ids-back : HwIdsBack
 unfolding isText digits allOf isUpperHex isDigit
-hw-ids-back = identifiers-back isUpperHex 5 (λ t all. names-below t (hex-names t all)) refl
+hw-ids-back = identifiers-back none64 isUpperHex 5 (λ t all. names-below t (hex-names t all)) refl
 
 -- ten characters of hex
 module _ (t : List ℕ) (word : isWord isHex 10 t ≡ true) where

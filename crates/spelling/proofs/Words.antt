@@ -20,7 +20,7 @@ use Rattle.text.proofs.NumbersAt.{hex-number, hex-wrong}
 use Rattle.dates.specs.Calendar.{isDate}
 use Rattle.forms.specs.DateText.{isDateAt, dateAt}
 use Rattle.forms.proofs.DateTexts.{date-wrong, date-right, date-same}
-use Rattle.spelling.specs.Spelling.{isWord, identifierFrom, noKey, keyFrom, isDateWord, dateFrom}
+use Rattle.spelling.specs.Spelling.{isWord, none64, none32, identifierFrom, keyFrom, isDateWord, dateFrom}
 
 module _ (test : ℕ → Bool) (n : ℕ) (t : List ℕ) where
   pub other-length : eqb (length t) n ≡ false → isWord test n t ≡ false
@@ -42,12 +42,12 @@ module _ (n : ℕ) (t : List ℕ) (same : length t ≡ n) where
   unfolding allAt isWord
   whole-word test = rw (le-leb (0 + n) (length t) whole-within, eq-eqb (length t) n same, whole)
 
-module _ (test : ℕ → Bool) (n : ℕ) (t : List ℕ) where
-  pub no-identifier : isWord test n t ≡ false → 0 ≡ identifierFrom test n t
+module _ (none : ℕ) (test : ℕ → Bool) (n : ℕ) (t : List ℕ) where
+  pub no-identifier : isWord test n t ≡ false → none ≡ identifierFrom none test n t
   unfolding identifierFrom
   no-identifier e = rw e
 
-  pub identifier-of : isWord test n t ≡ true → numberAt n t 0 ≡ identifierFrom test n t
+  pub identifier-of : isWord test n t ≡ true → numberAt n t 0 ≡ identifierFrom none test n t
   unfolding identifierFrom numberAt
   identifier-of e =
       let same : length t ≡ n = word-length test n t e in
@@ -55,12 +55,12 @@ module _ (test : ℕ → Bool) (n : ℕ) (t : List ℕ) where
 
 -- a cell key: what is read at the start of ten characters
 module _ (t : List ℕ) where
-  pub no-key : isWord isHex 10 t ≡ false → noKey ≡ keyFrom t
+  pub no-key : isWord isHex 10 t ≡ false → none64 ≡ keyFrom t
   unfolding keyFrom
   no-key e = rw e
 
   module _ (same : length t ≡ 10) where
-    pub key-refused : hexAt 10 t 0 ≡ Wrong → noKey ≡ keyFrom t
+    pub key-refused : hexAt 10 t 0 ≡ Wrong → none64 ≡ keyFrom t
     key-refused wrong = no-key (sym (whole-word 10 t same isHex) ∙ hex-wrong 10 t 0 (omega arith) wrong)
 
     pub key-taken : (x : ℕ) → hexAt 10 t 0 ≡ Number x → x ≡ keyFrom t
@@ -70,11 +70,11 @@ module _ (t : List ℕ) where
 
 -- a date: what is read at the start of eight characters
 module _ (t : List ℕ) where
-  pub no-date : isDateWord t ≡ false → 0 ≡ dateFrom t
+  pub no-date : isDateWord t ≡ false → none32 ≡ dateFrom t
   unfolding dateFrom
   no-date e = rw e
 
-  pub no-date-length : eqb (length t) 8 ≡ false → 0 ≡ dateFrom t
+  pub no-date-length : eqb (length t) 8 ≡ false → none32 ≡ dateFrom t
   unfolding isDateWord
   no-date-length e = no-date (rw (other-length isDigit 8 t e))
 
@@ -83,7 +83,7 @@ module _ (t : List ℕ) where
     unfolding isDateAt isDateWord
     date-word = rw (whole-word 8 t same isDigit, whole 8 t same)
 
-    pub date-refused : dateAt t 0 ≡ Wrong → 0 ≡ dateFrom t
+    pub date-refused : dateAt t 0 ≡ Wrong → none32 ≡ dateFrom t
     date-refused wrong = no-date (sym date-word ∙ date-wrong t 0 wrong)
 
     pub date-taken : (x : ℕ) → dateAt t 0 ≡ Number x → x ≡ dateFrom t

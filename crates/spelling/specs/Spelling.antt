@@ -15,37 +15,40 @@ use Rattle.forms.specs.Identifiers.{isText, isCellKey}
 unfoldable pub isWord : (ℕ → Bool) → ℕ → List ℕ → Bool
 isWord test n t = eqb (length t) n && allOf test t
 
--- an identifier: the number of its bytes; of another text 0, which is no identifier
-unfoldable pub identifierFrom : (ℕ → Bool) → ℕ → List ℕ → ℕ
-identifierFrom test n t = cond (isWord test n t) (bytesNumber t) 0
+-- what a text that is none gives: all ones, in 64 bits or in 32, which is no value of any form
+abbrev pub none64 : ℕ
+none64 = 2 ^ 64 - 1
+
+abbrev pub none32 : ℕ
+none32 = 2 ^ 32 - 1
+
+-- an identifier: the number of its bytes
+unfoldable pub identifierFrom : ℕ → (ℕ → Bool) → ℕ → List ℕ → ℕ
+identifierFrom none test n t = cond (isWord test n t) (bytesNumber t) none
 
 -- cell name: eight of A-Z 0-9
 abbrev pub nameFrom : List ℕ → ℕ
-nameFrom t = identifierFrom isNameCharacter 8 t
+nameFrom t = identifierFrom none64 isNameCharacter 8 t
 
 -- HW_ID: five characters of hex
 abbrev pub hwIdFrom : List ℕ → ℕ
-hwIdFrom t = identifierFrom isHex 5 t
+hwIdFrom t = identifierFrom none64 isHex 5 t
 
 -- a code, as M_ID and Data Server ID are: two of A-Z 0-9
 abbrev pub codeFrom : List ℕ → ℕ
-codeFrom t = identifierFrom isNameCharacter 2 t
-
--- the number that a text which is no cell key gives: too large for one
-abbrev pub noKey : ℕ
-noKey = 2 ^ 64 - 1
+codeFrom t = identifierFrom none32 isNameCharacter 2 t
 
 -- cell key: ten characters of hex
 unfoldable pub keyFrom : List ℕ → ℕ
-keyFrom t = cond (isWord isHex 10 t) (hexNumber t) noKey
+keyFrom t = cond (isWord isHex 10 t) (hexNumber t) none64
 
 -- eight digits that are a date
 unfoldable pub isDateWord : List ℕ → Bool
 isDateWord t = isWord isDigit 8 t && isDate (decimalNumber t)
 
--- date: its digits as a number; of another text 0, which is no date
+-- date: its digits as a number
 unfoldable pub dateFrom : List ℕ → ℕ
-dateFrom t = cond (isDateWord t) (decimalNumber t) 0
+dateFrom t = cond (isDateWord t) (decimalNumber t) none32
 
 -- an identifier as its characters
 unfoldable pub identifierTo : (ℕ → Bool) → ℕ → ℕ → List ℕ

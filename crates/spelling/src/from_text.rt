@@ -5,8 +5,10 @@ ghost use Rattle.spelling.specs.Spelling.{isWord, nameFrom, hwIdFrom, co
 use bytes::numbers::Reading;
 use text::characters::Alphabet;
 
-// What a text that is no cell key gives.
-const NO_KEY: u64 = 0xffff_ffff_ffff_ffff;
+// What a text that is none gives.
+const NONE_64: u64 = 0xffff_ffff_ffff_ffff;
+
+const NONE_32: u32 = 0xffff_ffff;
 
 // Whether the text is exactly n characters of the alphabet.
 fn is_word(alphabet: Alphabet, text: &[u8], n: usize) -> bool
@@ -18,58 +20,58 @@ fn is_word(alphabet: Alphabet, text: &[u8], n: usize) -> bool
     text::reading::all_of(alphabet, text, 0, n)
 }
 
-// Cell name; 0 where it is none.
+// Cell name.
 pub fn name_from(text: &[u8]) -> u64
     ensures { λ r. ⌜ r ≡ nameFrom (now (text .entry)) ⌝ }
 {
     if !is_word(Alphabet::Name, text, 8) {
-        return 0;
+        return NONE_64;
     }
     bytes::numbers::number64(text, 0)
 }
 
-// HW_ID; 0 where it is none.
+// HW_ID.
 pub fn hw_id_from(text: &[u8]) -> u64
     ensures { λ r. ⌜ r ≡ hwIdFrom (now (text .entry)) ⌝ }
 {
     if !is_word(Alphabet::Hex, text, 5) {
-        return 0;
+        return NONE_64;
     }
     bytes::numbers::number40(text, 0)
 }
 
-// M_ID or Data Server ID; 0 where it is none.
+// M_ID or Data Server ID.
 pub fn code_from(text: &[u8]) -> u32
     ensures { λ r. ⌜ r ≡ codeFrom (now (text .entry)) ⌝ }
 {
     if !is_word(Alphabet::Name, text, 2) {
-        return 0;
+        return NONE_32;
     }
     bytes::numbers::number16(text, 0) as u32
 }
 
-// Cell key; NO_KEY where it is none.
+// Cell key.
 pub fn key_from(text: &[u8]) -> u64
     ensures { λ r. ⌜ r ≡ keyFrom (now (text .entry)) ⌝ }
 {
     if text.len() != 10 {
-        return NO_KEY;
+        return NONE_64;
     }
     match text::reading::hex_at(text, 0, 10) {
         Reading::Number(x) => x,
-        Reading::Wrong => NO_KEY,
+        Reading::Wrong => NONE_64,
     }
 }
 
-// Date; 0 where it is none.
+// Date.
 pub fn date_from(text: &[u8]) -> u32
     ensures { λ r. ⌜ r ≡ dateFrom (now (text .entry)) ⌝ }
 {
     if text.len() != 8 {
-        return 0;
+        return NONE_32;
     }
     match forms::date_text::date_at(text, 0) {
         Reading::Number(x) => x as u32,
-        Reading::Wrong => 0,
+        Reading::Wrong => NONE_32,
     }
 }

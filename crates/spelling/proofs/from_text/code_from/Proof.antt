@@ -11,7 +11,7 @@ is-word-requires : tie.Need-is-word-requires
 is-word-requires c κs = search needs
 
 returns : tie.Need-returns
-returns c = no-identifier _ _ _ (sym (c .before .is-word .ensures) ∙ not-true _ (c .if1 .taken))
+returns c = no-identifier _ _ _ _ (sym (c .before .is-word .ensures) ∙ not-true _ (c .if1 .taken))
 
 number16-requires : tie.Need-number16-requires
 number16-requires c κs = search needs
@@ -20,7 +20,7 @@ cast-result : tie.Need-cast-result
 cast-result c = search needs
 
 returns-2 : tie.Need-returns-2
-returns-2 c = c .number16 .ensures ∙ identifier-of _ _ _ (sym (c .before .before .is-word .ensures) ∙ not-false _ (c .before .if1 .left))
+returns-2 c = c .number16 .ensures ∙ identifier-of _ _ _ _ (sym (c .before .before .is-word .ensures) ∙ not-false _ (c .before .if1 .left))
 
 pub code-from-spec : {M : Type 1} → statement M
 code-from-spec =

@@ -11,13 +11,13 @@ is-word-requires : tie.Need-is-word-requires
 is-word-requires c κs = search needs
 
 returns : tie.Need-returns
-returns c = no-identifier _ _ _ (sym (c .before .is-word .ensures) ∙ not-true _ (c .if1 .taken))
+returns c = no-identifier _ _ _ _ (sym (c .before .is-word .ensures) ∙ not-true _ (c .if1 .taken))
 
 number40-requires : tie.Need-number40-requires
 number40-requires c κs = search needs
 
 returns-2 : tie.Need-returns-2
-returns-2 c = c .number40 .ensures ∙ identifier-of _ _ _ (sym (c .before .before .is-word .ensures) ∙ not-false _ (c .before .if1 .left))
+returns-2 c = c .number40 .ensures ∙ identifier-of _ _ _ _ (sym (c .before .before .is-word .ensures) ∙ not-false _ (c .before .if1 .left))
 
 pub hw-id-from-spec : {M : Type 1} → statement M
 hw-id-from-spec = tie.close (tie.spec is-word-requires returns number40-requires returns-2)
