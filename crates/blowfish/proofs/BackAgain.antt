@@ -6,7 +6,7 @@ use native.Mathlib.Omega.{arith}
 use lib.Bits.{bitXor}
 use lib.Dec.{lit<}
 use Rattle.bytes.proofs.Xor.{xor-twice, xor-swap}
-use Rattle.blowfish.specs.Cipher.{F, P, farEnd, Block, block, exchange, round, rounds, whiten, cipher}
+use Rattle.blowfish.specs.Cipher.{F, P, farEnd, Block, block, round, rounds, finish, cipher}
 use Rattle.blowfish.specs.BackAgain.{DecipherAfterEncipher, EncipherAfterDecipher}
 
 -- exchanged, and the words j and k combined
@@ -33,7 +33,7 @@ module _ (f p q : ℕ → ℕ) (far : (i : ℕ) → i < 18 → q i ≡ p (17 - i
   cipher-back : cipher f q (cipher f p b) ≡ b
   unfolding cipher rounds
   cipher-back =
-      ap (λ (x : Block). whiten q (exchange x)) (rounds-back 16 0 refl)
+      ap (finish (q 16) (q 17)) (rounds-back 16 0 refl)
       ∙ ap₂ block
       (ap (bitXor (bitXor (b .left) (p 0))) (far 17 (lit< tt)) ∙ xor-twice (b .left) (p 0))
       (ap (bitXor (bitXor (b .right) (p 1))) (far 16 (lit< tt)) ∙ xor-twice (b .right) (p 1))

@@ -1,4 +1,4 @@
-pub mod Turns
+pub mod Rounds
 pub mod KeyWords
 pub mod Keys
 pub mod BackAgain

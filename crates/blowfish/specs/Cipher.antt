@@ -42,22 +42,34 @@ block l r = record { left = l; right = r }
 abbrev pub exchange : Block → Block
 exchange b = block (b .right) (b .left)
 
--- L xor p, then R xor f(L), then exchange
+-- L xor p
+abbrev pub leftXor : ℕ → Block → Block
+leftXor p b = block (bitXor (b .left) p) (b .right)
+
+-- R xor p
+abbrev pub rightXor : ℕ → Block → Block
+rightXor p b = block (b .left) (bitXor (b .right) p)
+
+-- R xor f(L)
+abbrev pub rightXorOf : (ℕ → ℕ) → Block → Block
+rightXorOf f b = rightXor (f (b .left)) b
+
+-- L xor p, then R xor f(L), then exchange L and R
 abbrev pub round : (ℕ → ℕ) → ℕ → Block → Block
-round f p b = exchange (block (bitXor (b .left) p) (bitXor (b .right) (f (bitXor (b .left) p))))
+round f p b = exchange (rightXorOf f (leftXor p b))
 
 -- n rounds, with the words p 0, p 1, ..
 unfoldable pub rounds : (ℕ → ℕ) → (ℕ → ℕ) → ℕ → Block → Block
 rounds f p zero b = b
 rounds f p (suc n) b = round f (p n) (rounds f p n b)
 
--- R xor the seventeenth word, L xor the eighteenth
-abbrev pub whiten : (ℕ → ℕ) → Block → Block
-whiten p b = block (bitXor (b .left) (p 17)) (bitXor (b .right) (p 16))
+-- undo the last exchange, then R xor p17, then L xor p18
+abbrev pub finish : ℕ → ℕ → Block → Block
+finish p17 p18 b = leftXor p18 (rightXor p17 (exchange b))
 
--- sixteen rounds, the last exchange undone, and the last two words
+-- sixteen rounds, and what follows them
 unfoldable pub cipher : (ℕ → ℕ) → (ℕ → ℕ) → Block → Block
-cipher f p b = whiten p (exchange (rounds f p 16 b))
+cipher f p b = finish (p 16) (p 17) (rounds f p 16 b)
 
 -- P from the far end
 abbrev pub farEnd : List ℕ → ℕ → ℕ

@@ -3,7 +3,7 @@
 ghost use mathlib.Core.Path.{_≡_};
 ghost use Prim.Native.Nat.{_+_, _*_, _/_, _%_, _^_, _<_};
 ghost use lib.ListN.{length};
-ghost use Rattle.blowfish.specs.Cipher.{F, encipherOf, decipherOf};
+ghost use Rattle.blowfish.specs.Cipher.{F, block, exchange, round, finish, blockOf, blockNumber, encipherOf, decipherOf};
 ghost use Rattle.blowfish.specs.Schedule.{keyWord, keyed, filled, keyNumber, scheduled};
 
 // Blowfish's F.
@@ -29,42 +29,102 @@ fn right(block: u64) -> u32
     (block % 0x1_0000_0000) as u32
 }
 
-fn joined(left: u32, right: u32) -> u64
-    ensures { λ r. ⌜ r ≡ left * 2 ^ 32 + right ⌝ }
-{
-    (left as u64) * 0x1_0000_0000 + (right as u64)
+// A block: the words L and R.
+struct Block {
+    left: u32,
+    right: u32,
 }
 
-// The block enciphered. A turn holds L and R with the next words of P already combined, which keeps one step off the longest way through a round.
+fn parted(x: u64) -> Block
+    ensures { λ r. ⌜ block (r .left) (r .right) ≡ blockOf x ⌝ }
+{
+    Block {
+        left: left(x),
+        right: right(x),
+    }
+}
+
+fn joined(b: Block) -> u64
+    ensures { λ r. ⌜ r ≡ blockNumber (block (b .left) (b .right)) ⌝ }
+{
+    (b.left as u64) * 0x1_0000_0000 + (b.right as u64)
+}
+
+fn exchanged(left: u32, right: u32) -> Block
+    ensures { λ r. ⌜ block (r .left) (r .right) ≡ exchange (block left right) ⌝ }
+{
+    Block {
+        left: right,
+        right: left,
+    }
+}
+
+// One round: L xor p, then R xor F(L), then exchange L and R.
+fn round(words: &[u32; 1042], p: u32, b: Block) -> Block
+    ensures { λ r. ⌜ block (r .left) (r .right) ≡ round (F (now (words .entry))) p (block (b .left) (b .right)) ⌝ }
+{
+    let mut b = b;
+    b.left = b.left ^ p;
+    b.right = b.right ^ round_function(words, b.left);
+    exchanged(b.left, b.right)
+}
+
+// After sixteen rounds: undo the last exchange, then R xor P17, then L xor P18.
+fn finish(p17: u32, p18: u32, b: Block) -> u64
+    ensures { λ r. ⌜ r ≡ blockNumber (finish p17 p18 (block (b .left) (b .right))) ⌝ }
+{
+    let mut b = exchanged(b.left, b.right);
+    b.right = b.right ^ p17;
+    b.left = b.left ^ p18;
+    joined(b)
+}
+
+// The block enciphered.
 pub fn encipher(words: &[u32; 1042], block: u64) -> u64
     ensures { λ r. ⌜ r ≡ encipherOf (now (words .entry)) block ⌝ }
 {
-    let mut l = left(block) ^ words[0];
-    let mut r = right(block) ^ words[1];
-    let mut i: usize = 0;
-    while i < 16 {
-        let next = r ^ round_function(words, l);
-        r = l ^ words[i + 2];
-        l = next;
-        i += 1;
-    }
-    joined(r, l)
+    let mut b = parted(block);
+    b = round(words, words[0], b);
+    b = round(words, words[1], b);
+    b = round(words, words[2], b);
+    b = round(words, words[3], b);
+    b = round(words, words[4], b);
+    b = round(words, words[5], b);
+    b = round(words, words[6], b);
+    b = round(words, words[7], b);
+    b = round(words, words[8], b);
+    b = round(words, words[9], b);
+    b = round(words, words[10], b);
+    b = round(words, words[11], b);
+    b = round(words, words[12], b);
+    b = round(words, words[13], b);
+    b = round(words, words[14], b);
+    b = round(words, words[15], b);
+    finish(words[16], words[17], b)
 }
 
-// The block deciphered: the same with P from the far end.
+// The block deciphered: the same rounds, with P from the far end.
 pub fn decipher(words: &[u32; 1042], block: u64) -> u64
     ensures { λ r. ⌜ r ≡ decipherOf (now (words .entry)) block ⌝ }
 {
-    let mut l = left(block) ^ words[17];
-    let mut r = right(block) ^ words[16];
-    let mut i: usize = 0;
-    while i < 16 {
-        let next = r ^ round_function(words, l);
-        r = l ^ words[15 - i];
-        l = next;
-        i += 1;
-    }
-    joined(r, l)
+    let mut b = parted(block);
+    b = round(words, words[17], b);
+    b = round(words, words[16], b);
+    b = round(words, words[15], b);
+    b = round(words, words[14], b);
+    b = round(words, words[13], b);
+    b = round(words, words[12], b);
+    b = round(words, words[11], b);
+    b = round(words, words[10], b);
+    b = round(words, words[9], b);
+    b = round(words, words[8], b);
+    b = round(words, words[7], b);
+    b = round(words, words[6], b);
+    b = round(words, words[5], b);
+    b = round(words, words[4], b);
+    b = round(words, words[3], b);
+    b = round(words, words[2], b);
+    finish(words[1], words[0], b)
 }
 
 // Four bytes of the key as a word, and the place after them; the key is read round and round.

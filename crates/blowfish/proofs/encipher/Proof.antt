@@ -1,98 +1,92 @@
--- `blowfish::encipher` meets its contract. The invariant: l and r are what i rounds give, with the next two words combined.
-use mathlib.Core.Path.{_≡_, ap, ap₂, _∙_}
-use Prim.Native.Nat.{ℕ, _+_, _-_, _≤_}
-use native.Mathlib.Omega.{arith}
-use lib.Bits.{bitXor}
-use Rattle.blowfish.specs.Cipher.{F, P, block, rounds, blockOf, encipherOf}
-use Rattle.blowfish.proofs.Turns.{ahead, begin, turn, finish}
+-- `blowfish::encipher` meets its contract: each round of the code is the next round of the definition.
+use mathlib.Core.Path.{_∙_}
+use Rattle.blowfish.specs.Cipher.{F, P, blockOf, encipherOf}
+use Rattle.blowfish.proofs.Rounds.{none, next, sixteen}
 use borrow.Author.Needs.{needs}
 use Rattle.blowfish.proofs.encipher.Statement.{statement}
 use Rattle.blowfish.proofs.encipher.Tie as tie
 
-abbrev Inv-loop : tie.InvT-loop
-Inv-loop words x l₀ r₀ i₀ l r i = (i ≤ 16) × (block l r ≡ ahead (P words) i (rounds (F words) (P words) i (blockOf x)))
-
-abbrev μ-loop : tie.MeasureT-loop
-μ-loop words x l₀ r₀ i₀ l r i = 16 - i
-
-left-requires : tie.Need-left-requires Inv-loop μ-loop
-left-requires c κs = search needs
-
-element-copy-out-l : tie.Need-element-copy-out-l Inv-loop μ-loop
-element-copy-out-l c = search needs
-
-right-requires : tie.Need-right-requires Inv-loop μ-loop
-right-requires c κs = search needs
-
-element-copy-out-r : tie.Need-element-copy-out-r Inv-loop μ-loop
-element-copy-out-r c = search needs
-
-loop-holds : tie.Need-loop-holds Inv-loop μ-loop
-loop-holds c =
-    let args = c .before .before .before .before .args in
-    let w = args .words .now in (
-      search needs,
-      ap₂ (λ (l r : ℕ). block (bitXor l (P w 0)) (bitXor r (P w 1))) (c .before .before .before .left .ensures) (c .before .right .ensures)
-          ∙ begin (F w) (P w) (blockOf (args .block)),
-    )
-
-round-function-requires : tie.Need-round-function-requires Inv-loop μ-loop
-round-function-requires c κs = search needs
-
-add-r : tie.Need-add-r Inv-loop μ-loop
-add-r c = search needs
-
-mul-r : tie.Need-mul-r Inv-loop μ-loop
-mul-r c = search needs
-
-element-copy-out-r-2 : tie.Need-element-copy-out-r-2 Inv-loop μ-loop
-element-copy-out-r-2 c = search needs
-
-add-i : tie.Need-add-i Inv-loop μ-loop
-add-i c = search needs
-
-loop-less : tie.Need-loop-less Inv-loop μ-loop
-loop-less c = search needs
-
-loop-again : tie.Need-loop-again Inv-loop μ-loop
-loop-again c =
-    let args = c .before .before .before .before .before .before .before .before .args in
-    let w = args .words .now in
-    let now = c .before .before .before .loop in (
-      search needs,
-      ap (λ (y : ℕ). block (bitXor (now .r) y) (bitXor (now .l) (P w (now .i + 2)))) (c .before .round-function .ensures)
-          ∙ turn (F w) (P w) (blockOf (args .block)) (now .i) (now .l) (now .r) (now .inv .1),
-    )
-
-joined-requires : tie.Need-joined-requires Inv-loop μ-loop
-joined-requires c κs = search needs
-
-returns : tie.Need-returns Inv-loop μ-loop
+returns : tie.Need-returns
 unfolding encipherOf
 returns c =
-    let args = c .before .before .before .before .before .before .before .args in
-    let w = args .words .now in
-    let now = c .before .before .loop in
-    let end : now .i ≡ 16 = omega arith in
-    c .joined .ensures ∙ finish (F w) (P w) (blockOf (args .block)) (now .i) (now .l) (now .r) end (now .inv .1)
+    let c₁₆ = c .before .before .before in
+    let c₁₅ = c₁₆ .before .before in
+    let c₁₄ = c₁₅ .before .before in
+    let c₁₃ = c₁₄ .before .before in
+    let c₁₂ = c₁₃ .before .before in
+    let c₁₁ = c₁₂ .before .before in
+    let c₁₀ = c₁₁ .before .before in
+    let c₉ = c₁₀ .before .before in
+    let c₈ = c₉ .before .before in
+    let c₇ = c₈ .before .before in
+    let c₆ = c₇ .before .before in
+    let c₅ = c₆ .before .before in
+    let c₄ = c₅ .before .before in
+    let c₃ = c₄ .before .before in
+    let c₂ = c₃ .before .before in
+    let c₁ = c₂ .before .before in
+    let begin = c₁ .before .before in
+    let args = begin .before .args in
+    let f = F (args .words .now) in
+    let p = P (args .words .now) in
+    let b = blockOf (args .block) in
+    let e₁ = next f p b 0 (c₁ .round .ensures) (begin .parted .ensures ∙ none f p b) in
+    let e₂ = next f p b 1 (c₂ .round2 .ensures) e₁ in
+    let e₃ = next f p b 2 (c₃ .round3 .ensures) e₂ in
+    let e₄ = next f p b 3 (c₄ .round4 .ensures) e₃ in
+    let e₅ = next f p b 4 (c₅ .round5 .ensures) e₄ in
+    let e₆ = next f p b 5 (c₆ .round6 .ensures) e₅ in
+    let e₇ = next f p b 6 (c₇ .round7 .ensures) e₆ in
+    let e₈ = next f p b 7 (c₈ .round8 .ensures) e₇ in
+    let e₉ = next f p b 8 (c₉ .round9 .ensures) e₈ in
+    let e₁₀ = next f p b 9 (c₁₀ .round10 .ensures) e₉ in
+    let e₁₁ = next f p b 10 (c₁₁ .round11 .ensures) e₁₀ in
+    let e₁₂ = next f p b 11 (c₁₂ .round12 .ensures) e₁₁ in
+    let e₁₃ = next f p b 12 (c₁₃ .round13 .ensures) e₁₂ in
+    let e₁₄ = next f p b 13 (c₁₄ .round14 .ensures) e₁₃ in
+    let e₁₅ = next f p b 14 (c₁₅ .round15 .ensures) e₁₄ in
+    let e₁₆ = next f p b 15 (c₁₆ .round16 .ensures) e₁₅ in
+    c .finish .ensures ∙ sixteen f p b e₁₆
 
+-- no call asks for anything, and each fetch lies within the words
 pub encipher-spec : {M : Type 1} → statement M
 encipher-spec =
     tie.close
     (tie.spec
-    Inv-loop
-    μ-loop
-    left-requires
-    element-copy-out-l
-    right-requires
-    element-copy-out-r
-    loop-holds
-    round-function-requires
-    add-r
-    mul-r
-    element-copy-out-r-2
-    add-i
-    loop-less
-    loop-again
-    joined-requires
+    (λ c κs. search needs)
+    (λ c. search needs)
+    (λ c κs. search needs)
+    (λ c. search needs)
+    (λ c κs. search needs)
+    (λ c. search needs)
+    (λ c κs. search needs)
+    (λ c. search needs)
+    (λ c κs. search needs)
+    (λ c. search needs)
+    (λ c κs. search needs)
+    (λ c. search needs)
+    (λ c κs. search needs)
+    (λ c. search needs)
+    (λ c κs. search needs)
+    (λ c. search needs)
+    (λ c κs. search needs)
+    (λ c. search needs)
+    (λ c κs. search needs)
+    (λ c. search needs)
+    (λ c κs. search needs)
+    (λ c. search needs)
+    (λ c κs. search needs)
+    (λ c. search needs)
+    (λ c κs. search needs)
+    (λ c. search needs)
+    (λ c κs. search needs)
+    (λ c. search needs)
+    (λ c κs. search needs)
+    (λ c. search needs)
+    (λ c κs. search needs)
+    (λ c. search needs)
+    (λ c κs. search needs)
+    (λ c. search needs)
+    (λ c. search needs)
+    (λ c κs. search needs)
     returns)
