@@ -116,8 +116,8 @@
    its three, 100 for the second and 1 for the third. While the first is 0, a
    new second number may change the interface, and the shared library's name
    changes with it (liblambukir.so.0.6). */
-#define LAMBUKIR_VERSION "0.6.0"
-#define LAMBUKIR_VERSION_NUMBER 600
+#define LAMBUKIR_VERSION "0.6.1"
+#define LAMBUKIR_VERSION_NUMBER 601
 
 /* The numbers that come back
 
