@@ -60,10 +60,9 @@ fn exchanged(left: u32, right: u32) -> Block
 }
 
 // One round: L xor p, then R xor F(L), then exchange L and R.
-fn round(words: &[u32; 1042], p: u32, b: Block) -> Block
+fn round(words: &[u32; 1042], p: u32, mut b: Block) -> Block
     ensures { λ r. ⌜ block (r .left) (r .right) ≡ round (F (now (words .entry))) p (block (b .left) (b .right)) ⌝ }
 {
-    let mut b = b;
     b.left = b.left ^ p;
     b.right = b.right ^ round_function(words, b.left);
     exchanged(b.left, b.right)
