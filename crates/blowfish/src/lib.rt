@@ -78,7 +78,7 @@ fn finish(p17: u32, p18: u32, b: Block) -> u64
     joined(b)
 }
 
-// The block enciphered.
+// The block enciphered: a round with each of P1 to P16, which stand first in the words, then P17 and P18.
 pub fn encipher(words: &[u32; 1042], block: u64) -> u64
     ensures { λ r. ⌜ r ≡ encipherOf (now (words .entry)) block ⌝ }
 {
@@ -102,7 +102,7 @@ pub fn encipher(words: &[u32; 1042], block: u64) -> u64
     finish(words[16], words[17], b)
 }
 
-// The block deciphered: the same rounds, with P from the far end.
+// The block deciphered: the same with P from the far end, P18 first.
 pub fn decipher(words: &[u32; 1042], block: u64) -> u64
     ensures { λ r. ⌜ r ≡ decipherOf (now (words .entry)) block ⌝ }
 {
