@@ -24,11 +24,12 @@ uint32_t probe_notice(uint32_t today, uint32_t expiry, uint32_t days); /* 0 curr
 
 /* Characters. */
 bool probe_is_digit(uint8_t c);
-bool probe_is_hex(uint8_t c);
+bool probe_is_upper_hex(uint8_t c); /* 0-9 A-F */
 bool probe_is_name_character(uint8_t c);
 uint32_t probe_digit_value(uint8_t c); /* 10 for no digit */
 uint32_t probe_digit_character(uint8_t v); /* of v % 10 */
-uint32_t probe_hex_value(uint8_t c); /* 16 for no hex character */
+uint32_t probe_raised(uint8_t c); /* a-z as A-Z */
+uint32_t probe_hex_value(uint8_t c); /* in either case; 16 for no hex character */
 uint32_t probe_hex_character(uint8_t v); /* of v % 16, upper case */
 
 /* Big-endian numbers of 16, 32, 40 and 64 bits at a place of a slice; 0 where one does not lie within it. */

@@ -10,6 +10,8 @@
 
 static const char digits[] = "0123456789";
 static const char hex[] = "0123456789ABCDEF";
+static const char small_hex[] = "0123456789abcdef";
+static const char small[] = "abcdefghijklmnopqrstuvwxyz", capitals[] = "ABCDEFGHIJKLMNOPQRSTUVWXYZ";
 static const char name_characters[] = "ABCDEFGHIJKLMNOPQRSTUVWXYZ0123456789";
 
 /* The place of a byte in an alphabet; the alphabet's length where it is not in it. */
@@ -24,10 +26,11 @@ static void characters(void)
     for (int i = 0; i < 256; i++) {
         uint8_t c = (uint8_t)i;
         same(probe_is_digit(c), place_in(digits, c) < 10, "%d is a digit", i);
-        same(probe_is_hex(c), place_in(hex, c) < 16, "%d is a hex character", i);
+        same(probe_is_upper_hex(c), place_in(hex, c) < 16, "%d is a hex character in capitals", i);
+        same(probe_raised(c), place_in(small, c) < 26 ? (uint8_t)capitals[place_in(small, c)] : c, "%d raised", i);
         same(probe_is_name_character(c), place_in(name_characters, c) < 36, "%d is a name's character", i);
         same(probe_digit_value(c), place_in(digits, c), "the digit's value of %d", i);
-        same(probe_hex_value(c), place_in(hex, c), "the hex value of %d", i);
+        same(probe_hex_value(c), place_in(place_in(hex, c) < 16 ? hex : small_hex, c), "the hex value of %d", i);
         same(probe_digit_character(c), (uint8_t)digits[c % 10], "the digit of %d", i);
         same(probe_hex_character(c), (uint8_t)hex[c % 16], "the hex character of %d", i);
     }

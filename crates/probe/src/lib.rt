@@ -4,7 +4,7 @@ ghost use Prim.Native.Nat.{_%_};
 ghost use Rattle.bytes.specs.Numbers.{bytesOf};
 ghost use Rattle.bytes.specs.Places.{numberAt};
 ghost use Rattle.bytes.specs.Padding.{padOf, unpadOf};
-ghost use Rattle.text.specs.Characters.{isDigit, isHex, isNameCharacter, hexValue, hexCharacter, digitValue, digitCharacter};
+ghost use Rattle.text.specs.Characters.{isDigit, isUpperHex, isNameCharacter, raised, hexValue, hexCharacter, digitValue, digitCharacter};
 ghost use Rattle.dates.specs.Calendar.{isDate, dayNumber};
 ghost use Rattle.dates.specs.Notice.{daysLeft, leftOf, noticeOf, noticeNumber};
 ghost use Rattle.blowfish.specs.Cipher.{encipherOf, decipherOf};
@@ -76,6 +76,13 @@ pub extern "C" fn probe_notice(today: u32, expiry: u32, days: u32) -> u32
 }
 
 #[no_mangle]
+pub extern "C" fn probe_raised(c: u8) -> u32
+    ensures { λ r. ⌜ r ≡ raised c ⌝ }
+{
+    text::characters::raised(c) as u32
+}
+
+#[no_mangle]
 pub extern "C" fn probe_hex_value(c: u8) -> u32
     ensures { λ r. ⌜ r ≡ hexValue c ⌝ }
 {
@@ -111,10 +118,10 @@ pub extern "C" fn probe_is_digit(c: u8) -> bool
 }
 
 #[no_mangle]
-pub extern "C" fn probe_is_hex(c: u8) -> bool
-    ensures { λ r. ⌜ r ≡ isHex c ⌝ }
+pub extern "C" fn probe_is_upper_hex(c: u8) -> bool
+    ensures { λ r. ⌜ r ≡ isUpperHex c ⌝ }
 {
-    text::characters::is_hex(c)
+    text::characters::is_upper_hex(c)
 }
 
 #[no_mangle]

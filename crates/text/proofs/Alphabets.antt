@@ -23,6 +23,19 @@ pub record Alphabet (b : ℕ) (character valueOf : ℕ → ℕ) (read written : 
   pub written-read : (c : ℕ) → written c ≡ true → read c ≡ true
 
 module _ {b : ℕ} {character valueOf : ℕ → ℕ} {read written : ℕ → Bool} (alphabet : Alphabet b character valueOf read written) where
+  -- the same alphabet, read after something is done to each character that leaves those that are written
+  pub read-after : (first : ℕ → ℕ) → ((c : ℕ) → written c ≡ true → first c ≡ c)
+      → Alphabet b character (λ (c : ℕ). valueOf (first c)) (λ (c : ℕ). read (first c)) written
+  read-after first leaves =
+      record {
+        positive = alphabet .positive;
+        exactly = λ c. alphabet .exactly (first c);
+        value-back = λ v fits. ap valueOf (leaves (character v) (alphabet .character-written v fits)) ∙ alphabet .value-back v fits;
+        character-written = alphabet .character-written;
+        character-back = λ c is. ap (λ (d : ℕ). character (valueOf d)) (leaves c is) ∙ alphabet .character-back c is;
+        written-read = λ c is. ap read (leaves c is) ∙ alphabet .written-read c is;
+      }
+
   pub values-below : (s : List ℕ) → allOf read s ≡ true → Below b (map valueOf s)
   values-below [] all i = alphabet .positive
   values-below (c ∷ s) all zero = ltb-true (valueOf c) b (sym (alphabet .exactly c) ∙ all-first read c s all)

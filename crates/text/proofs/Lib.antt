@@ -2,8 +2,10 @@ pub mod Alphabets
 pub mod Notations
 pub mod Quoted
 pub mod NameTexts
+pub mod Raising
 pub mod Inverses
 pub mod PlacedTexts
+pub mod PutTexts
 pub mod LowDigits
 pub mod Numerals
 pub mod TextsAt

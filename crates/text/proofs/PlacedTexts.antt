@@ -1,13 +1,13 @@
 -- Texts put at a place of a slice: what stands there, byte by byte from either end, and how neighbours join.
 -- Assumes nothing.
 use mathlib.Core.Path.{_≡_, sym, ap, _∙_}
-use mathlib.Core.List.{List, [], _∷_, _++_, append-assoc}
+use mathlib.Core.List.{List, [], _∷_, _++_, append-assoc, append-nil}
 use Prim.Native.Nat.{ℕ, suc, _+_, _≤_, _<_}
 use native.Mathlib.Nat.{add-zero, zero-add, add-suc, suc-add}
 use native.Mathlib.Omega.{arith}
 use borrow.Author.Tests.{le-leb, lt-leb, leb-true, leb-false}
 use lib.Dec.{leb}
-use lib.ListN.{length, take, drop, set, length-append, length-drop, length-set, take-append-drop}
+use lib.ListN.{length, take, drop, set, length-append, length-drop, length-set, take-append-drop, drop-of-length-le}
 use lib.Seq.{length-take-le, take-suc-set, drop-set-lt, set-comm}
 use Rattle.bytes.proofs.Every.{either}
 use Rattle.text.specs.Texts.{placed}
@@ -37,6 +37,12 @@ placed-none at s =
 
 pub placed-start : (t s : List ℕ) → length t ≤ length s → placed 0 t s ≡ t ++ drop (length t) s
 placed-start t s h = placed-within 0 t s (omega arith) ∙ ap (λ (n : ℕ). t ++ drop n s) (zero-add (length t))
+
+-- a text put over a slice of its own length
+pub placed-whole : (t s : List ℕ) → length t ≡ length s → placed 0 t s ≡ t
+placed-whole t s size =
+    let all : length s ≤ length t = omega arith in
+    placed-start t s (omega arith) ∙ ap (λ (l : List ℕ). t ++ l) (drop-of-length-le s all) ∙ append-nil t
 
 -- the first byte, and then the rest one place further
 pub placed-first : (at v : ℕ) (t s : List ℕ) → at + suc (length t) ≤ length s → placed (suc at) t (set s at v) ≡ placed at (v ∷ t) s

@@ -3,15 +3,16 @@
 use mathlib.Core.Path.{_≡_, refl, sym, ap, ap₂, _∙_}
 use mathlib.Core.Bool.{Bool, true, false, _&&_}
 use mathlib.Core.List.{List, [], _∷_, _++_}
-use Prim.Native.Nat.{ℕ, suc, _+_, _-_, _≤_, _<_}
+use Prim.Native.Nat.{ℕ, zero, suc, _+_, _-_, _≤_, _<_}
 use native.Mathlib.Numerals.{add-one}
 use native.Mathlib.Omega.{arith}
 use borrow.Author.Tests.{leb-true, le-leb, lt-leb}
 use lib.Dec.{leb}
 use lib.ListN.{length, getD, take, drop, length-append}
-use lib.Seq.{drop-cons, drop-drop, take-add, take-at, drop-at}
+use lib.Seq.{getD-take, getD-drop, drop-cons, drop-drop, take-add, take-take, take-at, drop-at}
 use Rattle.bytes.specs.Every.{allOf}
-use Rattle.bytes.proofs.Every.{and-first, and-second, either}
+use Rattle.bytes.proofs.Every.{and-first, and-second, either, all-at}
+use Rattle.bytes.proofs.Places.{part-length}
 use Rattle.text.specs.Texts.{part, allAt}
 
 -- the bytes from place at + i on: the one there, and those after it
@@ -31,6 +32,25 @@ part-front n at front t back start count = rw (drop-at front (t ++ back) at star
 pub part-join : (n m : ℕ) (s : List ℕ) (at : ℕ) → part (n + m) s at ≡ part n s at ++ part m s (at + n)
 part-join n m s at = rw (take-add, drop-drop)
 
+-- n bytes of the first m
+pub part-within : (n m : ℕ) (s : List ℕ) (at : ℕ) → at + n ≤ m → part n (take m s) at ≡ part n s at
+part-within n m s zero h = take-take n m s (omega arith)
+part-within n zero s (suc at) h = absurd (omega arith)
+part-within n (suc m) [] (suc at) h = refl
+part-within n (suc m) (c ∷ s) (suc at) h = part-within n m s at (omega arith)
+
+-- and of the m from a place on
+pub part-of-part : (n m : ℕ) (s : List ℕ) (at k : ℕ) → k + n ≤ m → part n (part m s at) k ≡ part n s (at + k)
+part-of-part n m s at k h = part-within n m (drop at s) k h ∙ ap (take n) (drop-drop k at s)
+
+-- where the first m bytes are the same, so is what stands among them
+module _ (m : ℕ) (s t : List ℕ) (same : take m s ≡ take m t) where
+  pub same-within : (n at : ℕ) → at + n ≤ m → part n s at ≡ part n t at
+  same-within n at h = sym (part-within n m s at h) ∙ ap (λ (l : List ℕ). part n l at) same ∙ part-within n m t at h
+
+  pub same-byte : (k : ℕ) → k < m → getD s k 0 ≡ getD t k 0
+  same-byte k h = sym (getD-take m s k 0 h) ∙ ap (λ (l : List ℕ). getD l k 0) same ∙ getD-take m t k 0 h
+
 module _ (test : ℕ → Bool) where
   pub all-append : (s t : List ℕ) → allOf test (s ++ t) ≡ (allOf test s && allOf test t)
   unfolding allOf
@@ -45,6 +65,11 @@ module _ (test : ℕ → Bool) (n : ℕ) (s : List ℕ) (at : ℕ) where
   pub all-there : allAt test n s at ≡ true → allOf test (part n s at) ≡ true
   unfolding allAt
   all-there all = and-second (leb (at + n) (length s)) (allOf test (part n s at)) all
+
+  pub all-byte : allAt test n s at ≡ true → (k : ℕ) → k < n → test (getD s (at + k) 0) ≡ true
+  all-byte all k h =
+      let size : length (part n s at) ≡ n = part-length n s at (all-within all) in
+      ap test (sym (getD-take n (drop at s) k 0 h ∙ getD-drop at s k 0)) ∙ all-at test (part n s at) (all-there all) k (omega arith)
 
   pub all-beyond : length s < at + n → allAt test n s at ≡ false
   unfolding allAt

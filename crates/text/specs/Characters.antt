@@ -6,7 +6,7 @@ use Rattle.text.specs.Ascii.{byte}
 use lib.Dec.{leb, ltb}
 use Rattle.bytes.specs.Numbers.{digits, value}
 use Rattle.text.specs.declared.characters.Alphabet.{Alphabet}
-use Rattle.text.specs.declared.characters.Alphabet.the-variants.{Digit, Hex, Name, Printable}
+use Rattle.text.specs.declared.characters.Alphabet.the-variants.{Digit, UpperHex, Name, Printable}
 
 -- c is one of the characters from low to high
 abbrev pub between : ℕ → ℕ → ℕ → Bool
@@ -16,13 +16,21 @@ between low high c = leb low c && leb c high
 unfoldable pub isDigit : ℕ → Bool
 isDigit c = between (byte "0") (byte "9") c
 
+-- a letter a-z raised to A-Z; any other byte as it is
+unfoldable pub raised : ℕ → ℕ
+raised c = cond (between (byte "a") (byte "z") c) (c - byte "a" + byte "A") c
+
+-- a text with its letters raised
+abbrev pub raisedText : List ℕ → List ℕ
+raisedText s = map raised s
+
 -- 0-9 A-F, as hex is written
 unfoldable pub isUpperHex : ℕ → Bool
 isUpperHex c = isDigit c || between (byte "A") (byte "F") c
 
--- the characters that are read as hex: those that are written
-abbrev pub isHex : ℕ → Bool
-isHex c = isUpperHex c
+-- 0-9 A-F a-f, as hex is read: in either case
+unfoldable pub isHex : ℕ → Bool
+isHex c = isUpperHex (raised c)
 
 -- A-Z 0-9
 unfoldable pub isNameCharacter : ℕ → Bool
@@ -35,13 +43,17 @@ isPrintable c = between (byte " ") (byte "~") c
 -- the test of each alphabet
 abbrev pub testOf : Alphabet → ℕ → Bool
 testOf Digit = isDigit
-testOf Hex = isHex
+testOf UpperHex = isUpperHex
 testOf Name = isNameCharacter
 testOf Printable = isPrintable
 
--- what a hex character stands for; 16 for a byte that is none
+-- what one of 0-9 A-F stands for; 16 for a byte that is none
+unfoldable pub upperHexValue : ℕ → ℕ
+upperHexValue c = cond (isDigit c) (c - byte "0") (cond (between (byte "A") (byte "F") c) (c - byte "A" + 10) 16)
+
+-- what a hex character in either case stands for
 unfoldable pub hexValue : ℕ → ℕ
-hexValue c = cond (isDigit c) (c - byte "0") (cond (between (byte "A") (byte "F") c) (c - byte "A" + 10) 16)
+hexValue c = upperHexValue (raised c)
 
 -- the hex character, upper case, of a value below 16
 unfoldable pub hexCharacter : ℕ → ℕ

@@ -1,13 +1,13 @@
 // Hex characters, digits, and the alphabets.
 ghost use mathlib.Core.Path.{_≡_};
-ghost use mathlib.Core.Bool.{_||_};
-ghost use Prim.Native.Nat.{_%_};
-ghost use Rattle.text.specs.Characters.{between, isDigit, isHex, isNameCharacter, isPrintable, testOf, hexValue, hexCharacter, digitValue, digitCharacter};
+ghost use mathlib.Core.Bool.{cond, _||_};
+ghost use Prim.Native.Nat.{_+_, _-_, _%_};
+ghost use Rattle.text.specs.Characters.{between, raised, isDigit, isUpperHex, isNameCharacter, isPrintable, testOf, hexValue, hexCharacter, digitValue, digitCharacter};
 
 // The alphabets that a text may be written in.
 pub enum Alphabet {
     Digit,
-    Hex,
+    UpperHex,
     Name,
     Printable,
 }
@@ -34,8 +34,8 @@ fn is_digit_or_capital(first: u8, last: u8, c: u8) -> bool
 }
 
 // 0-9 A-F.
-pub fn is_hex(c: u8) -> bool
-    ensures { λ r. ⌜ r ≡ isHex c ⌝ }
+pub fn is_upper_hex(c: u8) -> bool
+    ensures { λ r. ⌜ r ≡ isUpperHex c ⌝ }
 {
     is_digit_or_capital(b'A', b'F', c)
 }
@@ -60,23 +60,41 @@ pub fn is_of(alphabet: Alphabet, c: u8) -> bool
 {
     match alphabet {
         Alphabet::Digit => is_digit(c),
-        Alphabet::Hex => is_hex(c),
+        Alphabet::UpperHex => is_upper_hex(c),
         Alphabet::Name => is_name_character(c),
         Alphabet::Printable => is_printable(c),
     }
 }
 
-// 0 to 15; 16 for a byte that is no hex character.
-pub fn hex_value(c: u8) -> u8
-    ensures { λ r. ⌜ r ≡ hexValue c ⌝ }
+// A letter a-z raised to A-Z; any other byte as it is.
+pub fn raised(c: u8) -> u8
+    ensures { λ r. ⌜ r ≡ raised c ⌝ }
 {
-    if is_digit(c) {
-        c - b'0'
-    } else if within(b'A', b'F', c) {
-        c - b'A' + 10
+    if within(b'a', b'z', c) {
+        c - b'a' + b'A'
+    } else {
+        c
+    }
+}
+
+// 10 to 15, of a small letter a to f; 16 for any other byte.
+fn letter_value(c: u8) -> u8
+    ensures { λ r. ⌜ r ≡ cond (between 97 102 c) (c - 97 + 10) 16 ⌝ }
+{
+    if within(b'a', b'f', c) {
+        c - b'a' + 10
     } else {
         16
     }
+}
+
+// 0 to 15, of a hex character in either case; 16 for any other byte. A capital has its small letter's bits but one, which is set in both.
+// The letter is looked at first, so that the compiler chooses between two values: a branch between digits and letters would never be foreseen.
+pub fn hex_value(c: u8) -> u8
+    ensures { λ r. ⌜ r ≡ hexValue c ⌝ }
+{
+    let letter = letter_value(c | 0x20);
+    if is_digit(c) { c - b'0' } else { letter }
 }
 
 // The hex character, upper case, of the low four bits.

@@ -1,6 +1,6 @@
 // Texts put at a place of a slice, which stays as it was where they do not lie within it.
 ghost use mathlib.Core.Path.{_≡_};
-ghost use Rattle.text.specs.Characters.{hexText, decimalText};
+ghost use Rattle.text.specs.Characters.{raisedText, hexText, decimalText};
 ghost use Rattle.text.specs.Texts.{placed, width};
 
 // The bytes of a text.
@@ -12,6 +12,20 @@ pub fn put_text(out: &mut [u8], at: usize, text: &[u8])
         let mut i: usize = 0;
         while i < n {
             out[at + i] = text[i];
+            i += 1;
+        }
+    }
+}
+
+// A text with its letters raised.
+pub fn put_raised(out: &mut [u8], at: usize, text: &[u8])
+    ensures { λ _. ⌜ now (out .exit) ≡ placed at (raisedText (now (text .entry))) (now (out .entry)) ⌝ }
+{
+    let n = text.len();
+    if bytes::numbers::lies_within(out, at, n) {
+        let mut i: usize = 0;
+        while i < n {
+            out[at + i] = super::characters::raised(text[i]);
             i += 1;
         }
     }

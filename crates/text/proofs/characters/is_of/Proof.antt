@@ -15,8 +15,8 @@ is-digit-requires c κs = search needs
 enum-told-2 : tie.Need-enum-told-2
 enum-told-2 c = search needs
 
-is-hex-requires : tie.Need-is-hex-requires
-is-hex-requires c κs = search needs
+is-upper-hex-requires : tie.Need-is-upper-hex-requires
+is-upper-hex-requires c κs = search needs
 
 enum-told-3 : tie.Need-enum-told-3
 enum-told-3 c = search needs
@@ -34,7 +34,7 @@ returns : tie.Need-returns
 returns c = c .is-digit .ensures ∙ sym (ap (λ (a : Alphabet). testOf a (c .before .before .before .args .c)) (c .before .enum-told .given .1))
 
 returns-2 : tie.Need-returns-2
-returns-2 c = c .is-hex .ensures ∙ sym (ap (λ (a : Alphabet). testOf a (c .before .before .before .args .c)) (c .before .enum-told2 .given .1))
+returns-2 c = c .is-upper-hex .ensures ∙ sym (ap (λ (a : Alphabet). testOf a (c .before .before .before .args .c)) (c .before .enum-told2 .given .1))
 
 returns-3 : tie.Need-returns-3
 returns-3 c = c .is-name-character .ensures ∙ sym (ap (λ (a : Alphabet). testOf a (c .before .before .before .args .c)) (c .before .enum-told3 .given .1))
@@ -49,7 +49,7 @@ is-of-spec =
     enum-told
     is-digit-requires
     enum-told-2
-    is-hex-requires
+    is-upper-hex-requires
     enum-told-3
     is-name-character-requires
     enum-told-4
