@@ -13,7 +13,7 @@ use Rattle.bytes.specs.Places.{numberAt}
 use Rattle.bytes.specs.Every.{allOf}
 use Rattle.bytes.proofs.Places.{bytes-at, number-beyond}
 use Rattle.bytes.specs.declared.numbers.Reading.the-variants.{Number, Wrong}
-use Rattle.bytes.proofs.Every.{and-first, either}
+use Rattle.bytes.proofs.Every.{and-first, and-second, either}
 use Rattle.text.specs.Characters.{isDigit, decimalNumber}
 use Rattle.text.specs.Texts.{part, allAt}
 use Rattle.text.proofs.TextsAt.{all-inside, all-beyond, all-within}
@@ -70,6 +70,12 @@ module _ (s : List ℕ) (at : ℕ) where
     unfolding dateAt isDateAt
     is-date good = let e : isDate number ≡ true = rw same at good in rw (all, e) (ap Number same)
 
+-- what the test of a date at a place is made of
+pub date-tests : (s : List ℕ) (at : ℕ) → isDateAt s at ≡ true → (allAt isDigit 8 s at ≡ true) × (isDate (number s at) ≡ true)
+unfolding isDateAt
+date-tests s at good =
+    (and-first (allAt isDigit 8 s at) (isDate (number s at)) good, and-second (allAt isDigit 8 s at) (isDate (number s at)) good)
+
 pub date-wrong : DateWrong
 unfolding dateAt
 date-wrong s at made = wrong-made (isDateAt s at) (number s at) made
@@ -84,5 +90,4 @@ module _ (s : List ℕ) (at x : ℕ) (made : dateAt s at ≡ Number x) where
   date-same = number-made (isDateAt s at) (number s at) x made .1
 
   pub date-small : x < 2 ^ 32
-  unfolding isDateAt
-  date-small = rw date-same (small s at (and-first (allAt isDigit 8 s at) (isDate (number s at)) (date-right s at x made)))
+  date-small = rw date-same (small s at (date-tests s at (date-right s at x made) .0))

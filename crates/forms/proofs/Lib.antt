@@ -1,4 +1,6 @@
 pub mod Fits
+pub mod Demands
+pub mod HwIds
 pub mod EightDigits
 pub mod DateTexts
 pub mod Filled

@@ -1,4 +1,4 @@
--- Two lists that differ at one place: their parts differ there too, or are the same.
+-- Two lists that differ at one place: their parts differ there too, or are the same; and so do their texts with letters raised.
 -- Assumes nothing.
 use mathlib.Core.Path.{_≡_, sym, ap, _∙_}
 use mathlib.Core.List.{List}
@@ -6,10 +6,12 @@ use Prim.Native.Nat.{ℕ, _+_, _-_, _≤_, _<_}
 use native.Mathlib.Omega.{arith}
 use borrow.Author.Tests.{ltb-true, ltb-false}
 use lib.Dec.{ltb}
-use lib.ListN.{length, getD, drop, length-drop, List·getD-eq-default}
+use lib.ListN.{length, getD, drop, length-drop, length-map, List·getD-eq-default}
 use lib.Seq.{ext-getD, getD-take, getD-drop, length-take-le}
 use Rattle.bytes.proofs.Every.{either}
+use Rattle.text.specs.Characters.{raised, raisedText}
 use Rattle.text.specs.Texts.{part}
+use Rattle.text.proofs.Raising.{raised-at}
 use Rattle.crc32.specs.OneChange.{DifferAt}
 
 module _ (n : ℕ) (s : List ℕ) (at : ℕ) where
@@ -67,3 +69,13 @@ module _ {i : ℕ} {s t : List ℕ} (d : DifferAt i s t) (n at : ℕ) (within : 
               (λ h. same-at k (ltb-true k n h) (λ e. away (omega arith)))
               (λ h. beyond k (ltb-false k n h));
         }
+
+-- where they differ by more than the case of a letter, they do so with their letters raised
+pub raised-differ : {i : ℕ} {s t : List ℕ} → DifferAt i s t → (raised (getD s i 0) ≡ raised (getD t i 0) → ⊥) → DifferAt i (raisedText s) (raisedText t)
+raised-differ {i} {s} {t} d more =
+    record {
+      one-length = length-map s raised ∙ d .one-length ∙ sym (length-map t raised);
+      within = simp length-map (d .within);
+      there = λ e. more (sym (raised-at s i) ∙ e ∙ raised-at t i);
+      elsewhere = λ k away. raised-at s k ∙ ap raised (d .elsewhere k away) ∙ sym (raised-at t k);
+    }

@@ -1,20 +1,28 @@
 -- Identifiers are numbers: the big-endian value of their ASCII bytes.
-use mathlib.Core.Bool.{Bool, _&&_}
+use mathlib.Core.Bool.{Bool, cond, _&&_}
 use mathlib.Core.List.{List, _++_}
 use Prim.Native.Nat.{ℕ, _^_}
 use lib.Dec.{ltb}
 use lib.ListN.{take}
-use Rattle.bytes.specs.Numbers.{bytesOf}
+use Rattle.bytes.specs.Numbers.{bytesOf, bytesNumber}
 use Rattle.bytes.specs.Every.{allOf}
-use Rattle.text.specs.Characters.{isUpperHex, isNameCharacter}
+use Rattle.text.specs.Characters.{raisedText, isUpperHex, isHex, isNameCharacter}
 
 -- x is the number of n bytes that all pass the test
 unfoldable pub isText : (ℕ → Bool) → ℕ → ℕ → Bool
 isText test n x = ltb x (256 ^ n) && allOf test (bytesOf n x)
 
--- HW_ID: five of 0-9 A-F
+-- HW_ID as it is given to us: five of 0-9 A-F a-f
 abbrev pub isHwId : ℕ → Bool
-isHwId x = isText isUpperHex 5 x
+isHwId x = isText isHex 5 x
+
+-- HW_ID as it is used: five of 0-9 A-F
+abbrev pub isUpperHwId : ℕ → Bool
+isUpperHwId x = isText isUpperHex 5 x
+
+-- a HW_ID with its letters raised, byte by byte; a number of more than five bytes, which is none, as it is
+unfoldable pub raisedHwId : ℕ → ℕ
+raisedHwId x = cond (ltb x (256 ^ 5)) (bytesNumber (raisedText (bytesOf 5 x))) x
 
 -- M_KEY: five of 0-9 A-F
 abbrev pub isMKey : ℕ → Bool

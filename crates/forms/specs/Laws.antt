@@ -7,7 +7,7 @@ use Rattle.bytes.specs.Places.{numberAt}
 use Rattle.bytes.specs.declared.numbers.Reading.the-variants.{Number, Wrong}
 use Rattle.text.specs.Characters.{isNameCharacter}
 use Rattle.text.specs.Texts.{allAt}
-use Rattle.forms.specs.Identifiers.{isText}
+use Rattle.forms.specs.Identifiers.{isText, isHwId, isUpperHwId, raisedHwId}
 use Rattle.forms.specs.Output.{Output, refusal, Answered}
 use Rattle.forms.specs.DateText.{isDateAt, dateAt}
 use Rattle.forms.specs.declared.Written.the-variants as written
@@ -15,6 +15,14 @@ use Rattle.forms.specs.declared.Written.the-variants as written
 -- the number of a text of n bytes is below 256 ^ n
 abbrev pub TextFits : Type 0
 TextFits = (test : ℕ → Bool) (n x : ℕ) → isText test n x ≡ true → x < 256 ^ n
+
+-- a HW_ID has the form as it is given exactly where it has the one in use after its letters are raised
+abbrev pub RaisedForm : Type 0
+RaisedForm = (x : ℕ) → isUpperHwId (raisedHwId x) ≡ isHwId x
+
+-- one in upper case is raised to itself
+abbrev pub UpperStays : Type 0
+UpperStays = (x : ℕ) → isUpperHwId x ≡ true → raisedHwId x ≡ x
 
 -- n characters A-Z 0-9 at a place are the text of the number there
 abbrev pub NameAt : Type 0

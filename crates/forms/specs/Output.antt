@@ -1,8 +1,10 @@
 -- What a call that writes gives: a text at the output's start, or a refusal that writes nothing.
-use mathlib.Core.List.{List, _++_}
+use mathlib.Core.Path.{_≡_}
+use mathlib.Core.List.{List, [], _++_}
 use Prim.Native.Nat.{ℕ}
 use lib.ListN.{length, drop}
 use Rattle.bytes.specs.NoChoice.{AnswerAndLent}
+use Rattle.text.specs.Characters.{raisedText}
 use Rattle.forms.specs.declared.Written.{Written}
 use Rattle.forms.specs.declared.Written.the-variants as written
 
@@ -20,6 +22,15 @@ writtenOf (refusal n) = written.Refused n
 abbrev pub lentAfter : Output → List ℕ → List ℕ
 lentAfter (text t) out = t ++ drop (length t) out
 lentAfter (refusal n) out = out
+
+-- the bytes that are written: none where it is refused
+abbrev pub bytesWritten : Output → List ℕ
+bytesWritten (text t) = t
+bytesWritten (refusal n) = []
+
+-- what is written has no small letter: raised, it is the same
+abbrev pub InCapitals : Output → Type 0
+InCapitals o = raisedText (bytesWritten o) ≡ bytesWritten o
 
 -- what a call answers and the lent output afterwards are those of what it gives
 abbrev pub Answered : Output → List ℕ → Written → List ℕ → Type 0
