@@ -1,4 +1,4 @@
--- An accepted user permit with one of its first 24 characters changed is refused. Assumes nothing.
+-- An accepted user permit with one of its first 24 characters changed by more than its case is refused. Assumes nothing.
 use mathlib.Core.Path.{_≡_, refl, sym, ap, _∙_}
 use mathlib.Core.Bool.{Bool, true, false}
 use mathlib.Core.List.{List}
@@ -6,20 +6,19 @@ use Prim.Native.Nat.{ℕ, _+_, _-_, _≤_, _<_}
 use native.Mathlib.Omega.{arith}
 use borrow.Author.Tests.{eqb-true, ltb-true, ltb-false}
 use lib.Dec.{ltb}
-use lib.ListN.{length, drop, getD}
+use lib.ListN.{length, drop, getD, length-map}
 use Rattle.bytes.specs.Numbers.{Below}
 use Rattle.bytes.proofs.Digits.{take-below, drop-below}
 use Rattle.bytes.proofs.Every.{either}
-use Rattle.text.specs.Characters.{isHex, hexNumber}
+use Rattle.text.specs.Characters.{raised, raisedText, isHex, hexNumber}
 use Rattle.text.specs.Texts.{part, allAt}
-use Rattle.text.proofs.Alphabets.{text-injective}
-use Rattle.text.proofs.Notations.{hex}
+use Rattle.text.proofs.Raising.{part-raised, raised-below, same-letters}
 use Rattle.text.proofs.TextsAt.{all-there}
 use Rattle.crc32.specs.Crc32.{crc32Of}
 use Rattle.crc32.specs.OneChange.{DifferAt}
 use Rattle.crc32.proofs.OneChange.{one-change}
 use Rattle.forms.specs.Order.{demand}
-use Rattle.forms.proofs.OnePlace.{part-before, part-after, part-differs}
+use Rattle.forms.proofs.OnePlace.{part-before, part-after, part-differs, raised-differ}
 use Rattle.user_permit.specs.Register.{isRegister}
 use Rattle.user_permit.specs.UserPermit.{isPermitText, isCrcRight, permitSays, readPermit}
 use Rattle.user_permit.specs.OneCharacter.{isShip, UserPermitGuarded}
@@ -36,7 +35,7 @@ demanded false n next e = (e, cc)
 record Accepted (s : List ℕ) : Type 0 where
   size : length s ≡ 28
   hex-text : allAt isHex 28 s 0 ≡ true
-  crc : hexNumber (part 8 s 16) ≡ crc32Of (part 16 s 0)
+  crc : hexNumber (part 8 s 16) ≡ crc32Of (raisedText (part 16 s 0))
 
 accepted : (register s : List ℕ) → isShip (readPermit register s) ≡ true → Accepted s
 unfolding readPermit permitSays isCrcRight
@@ -46,32 +45,39 @@ accepted register s ship =
     record {
       size = text-size s (checked .0);
       hex-text = text-hex s (checked .0);
-      crc = eqb-true (hexNumber (part 8 s 16)) (crc32Of (part 16 s 0)) crc;
+      crc = eqb-true (hexNumber (part 8 s 16)) (crc32Of (raisedText (part 16 s 0))) crc;
     }
 
 part-below : (n : ℕ) (s : List ℕ) (at : ℕ) → Below 256 s → Below 256 (part n s at)
 part-below n s at below = take-below n (drop at s) (drop-below at s below)
 
-module _ (s t : List ℕ) (i : ℕ) (change : DifferAt i s t) (a : Accepted s) (b : Accepted t) where
+module _ (s t : List ℕ) (i : ℕ) (change : DifferAt i s t) (more : raised (getD s i 0) ≡ raised (getD t i 0) → ⊥) (a : Accepted s) (b : Accepted t) where
+  -- the change is still there with letters raised, in the part that it is in
+  differs : (n at : ℕ) → at + n ≤ length s → at ≤ i → i < at + n → DifferAt (i - at) (raisedText (part n s at)) (raisedText (part n t at))
+  differs n at within low high =
+      rw (part-raised n s at, part-raised n t at)
+      at (part-differs (raised-differ change more) n at (simp length-map within) low high)
+
   -- a change of one of the 16 characters changes their CRC-32, and not the one that is written
   changed-text : Below 256 s → Below 256 t → i < 16 → ⊥
   changed-text below-s below-t h =
-      one-change (part 16 s 0) (part 16 t 0) (i - 0) (part-below 16 s 0 below-s) (part-below 16 t 0 below-t)
-      (part-differs change 16 0 (omega (arith, a .size)) (omega arith) (omega arith))
+      one-change (raisedText (part 16 s 0)) (raisedText (part 16 t 0)) (i - 0)
+      (raised-below (part 16 s 0) (part-below 16 s 0 below-s))
+      (raised-below (part 16 t 0) (part-below 16 t 0 below-t))
+      (differs 16 0 (omega (arith, a .size)) (omega arith) (omega arith))
       (sym (a .crc) ∙ ap hexNumber (part-after change 8 16 (omega (arith, a .size)) h) ∙ b .crc)
 
   -- a change of one of the 8 changes the CRC-32 that is written, and not the 16 characters
   changed-crc : 16 ≤ i → i < 24 → ⊥
   changed-crc from to =
-      let size : 16 + 8 ≤ length s = omega (arith, a .size) in
-      let differ : DifferAt (i - 16) (part 8 s 16) (part 8 t 16) = part-differs change 8 16 size from to in
+      let differ = differs 8 16 (omega (arith, a .size)) from to in
       differ .there
       (ap (λ (l : List ℕ). getD l (i - 16) 0)
-      (text-injective hex (part 8 s 16) (part 8 t 16)
+      (same-letters (part 8 s 16) (part 8 t 16)
       (all-there isHex 8 s 16 (second-hex s (a .hex-text)))
       (all-there isHex 8 t 16 (second-hex t (b .hex-text)))
-      (differ .one-length)
-      (a .crc ∙ ap crc32Of (part-before change 16 0 (omega (arith, a .size)) from) ∙ sym (b .crc))))
+      (part-differs change 8 16 (omega (arith, a .size)) from to .one-length)
+      (a .crc ∙ ap (λ (l : List ℕ). crc32Of (raisedText l)) (part-before change 16 0 (omega (arith, a .size)) from) ∙ sym (b .crc))))
 
   changed : Below 256 s → Below 256 t → i < 24 → ⊥
   changed below-s below-t early =
@@ -80,7 +86,7 @@ module _ (s t : List ℕ) (i : ℕ) (change : DifferAt i s t) (a : Accepted s) (
       (λ h. changed-crc (ltb-false i 16 h) early)
 
 pub user-permit-guarded : UserPermitGuarded
-user-permit-guarded register s t i below-s below-t early change ship =
+user-permit-guarded register s t i below-s below-t early change more ship =
     either (isShip (readPermit register t))
-    (λ other. absurd (changed s t i change (accepted register s ship) (accepted register t other) below-s below-t early))
+    (λ other. absurd (changed s t i change more (accepted register s ship) (accepted register t other) below-s below-t early))
     (λ refused. refused)

@@ -3,3 +3,4 @@ pub mod UserPermits
 pub mod PermitsBack
 pub mod ShipRead
 pub mod ChangedPermits
+pub mod EitherCases

@@ -11,7 +11,8 @@ use Rattle.text.specs.Characters.{hexNumber}
 use Rattle.text.specs.Texts.{part}
 use Rattle.blowfish.specs.Cipher.{decipherOf}
 use Rattle.forms.specs.Order.{demand}
-use Rattle.forms.specs.Identifiers.{isHwId}
+use Rattle.forms.specs.Identifiers.{isHwId, isUpperHwId}
+use Rattle.forms.proofs.HwIds.{upper-given}
 use Rattle.user_permit.specs.Register.{isRegister, keyOf}
 use Rattle.user_permit.specs.UserPermit.{makerWords, isPermitText, isCrcRight, permitMId, shipOf, readUnder, permitSays, readPermit}
 use Rattle.user_permit.specs.Laws.{ShipForm}
@@ -28,10 +29,10 @@ passed false n hw m next ship = (cc, cc)
 module _ (hw m : ℕ) where
   number-form : (x k : ℕ) → shipOf (Number x) k ≡ Ship hw m → isHwId hw ≡ true
   number-form x k ship =
-      let it = passed (isHwId x) 18 hw m (Ship x k) ship in
+      let it = passed (isUpperHwId x) 18 hw m (Ship x k) ship in
       let same : Ship x k ≡ Ship hw m = it .1 in
       let equal : x ≡ hw = cc in
-      ap isHwId (sym equal) ∙ it .0
+      ap isHwId (sym equal) ∙ upper-given x (it .0)
 
   reading-form : (x : Reading) (k : ℕ) → shipOf x k ≡ Ship hw m → isHwId hw ≡ true
   reading-form (Number x) k ship = number-form x k ship

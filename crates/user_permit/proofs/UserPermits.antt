@@ -16,9 +16,9 @@ use Rattle.bytes.specs.declared.numbers.Reading.{Reading}
 use Rattle.bytes.specs.declared.numbers.Reading.the-variants.{Number}
 use Rattle.bytes.proofs.Digits.{digits-length}
 use Rattle.bytes.proofs.Every.{and-first, either}
-use Rattle.text.specs.Characters.{isHex, hexText, hexNumber}
+use Rattle.text.specs.Characters.{raisedText, isUpperHex, isHex, hexText, hexNumber}
 use Rattle.text.specs.Texts.{part, allAt, placed}
-use Rattle.text.proofs.Alphabets.{text-length, text-written}
+use Rattle.text.proofs.Alphabets.{text-length, text-written, written-is-read}
 use Rattle.text.proofs.Notations.{hex}
 use Rattle.text.proofs.PlacedTexts.{placed-start, placed-next}
 use Rattle.text.proofs.TextsAt.{part-front, all-append, all-inside, all-join, all-left, all-right}
@@ -26,7 +26,7 @@ use Rattle.crc32.specs.Crc32.{crc32Of}
 use Rattle.blowfish.specs.Cipher.{encipherOf, decipherOf}
 use Rattle.blowfish.specs.Schedule.{schedule, scheduled}
 use Rattle.blowfish.proofs.Keys.{taken}
-use Rattle.forms.specs.Identifiers.{isHwId}
+use Rattle.forms.specs.Identifiers.{isHwId, isUpperHwId, raisedHwId}
 use Rattle.forms.specs.Output.{text, refusal}
 use Rattle.user_permit.specs.Register.{isRegister, keyOf}
 use Rattle.user_permit.specs.UserPermit.{makerWords, hwIdPart, crcPart, mIdPart, userPermit, made, isPermitText, isCrcRight, permitMId, shipOf, permitSays, readPermit}
@@ -40,16 +40,16 @@ maker-words key bytes before words e done =
     let five : length bytes ≡ 5 = ap length e ∙ digits-length 256 5 key in
     done ∙ sym (taken bytes before (omega arith) (omega arith) .1) ∙ ap schedule e
 
-pub no-hw-id : (x : Reading) (hw m : ℕ) → x ≡ Number hw → isHwId hw ≡ false → shipOf x m ≡ Refused 18
+pub no-hw-id : (x : Reading) (hw m : ℕ) → x ≡ Number hw → isUpperHwId hw ≡ false → shipOf x m ≡ Refused 18
 no-hw-id x hw m e wrong = rw (e, wrong)
 
-pub a-ship : (x : Reading) (hw m : ℕ) → x ≡ Number hw → isHwId hw ≡ true → shipOf x m ≡ Ship hw m
+pub a-ship : (x : Reading) (hw m : ℕ) → x ≡ Number hw → isUpperHwId hw ≡ true → shipOf x m ≡ Ship hw m
 a-ship x hw m e right = rw (e, right)
 
 module _ (key hw m : ℕ) where
   pub hw-id-length : length (hwIdPart key hw) ≡ 16
   unfolding hwIdPart
-  hw-id-length = text-length hex 16 (encipherOf (makerWords key) (padOf 5 hw))
+  hw-id-length = text-length hex 16 (encipherOf (makerWords key) (padOf 5 (raisedHwId hw)))
 
   crc-length : length (crcPart (hwIdPart key hw)) ≡ 8
   unfolding crcPart
@@ -81,15 +81,22 @@ module _ (key hw m : ℕ) where
       (simp length-append (omega (arith, hw-id-length, crc-length)))
       m-id-length
 
-  pub permit-hex : allOf isHex (userPermit key hw m) ≡ true
-  unfolding userPermit hwIdPart crcPart mIdPart
-  permit-hex =
+  pub hw-id-written : allOf isUpperHex (hwIdPart key hw) ≡ true
+  unfolding hwIdPart
+  hw-id-written = text-written hex 16 (encipherOf (makerWords key) (padOf 5 (raisedHwId hw)))
+
+  pub permit-written : allOf isUpperHex (userPermit key hw m) ≡ true
+  unfolding userPermit crcPart mIdPart
+  permit-written =
       simp all-append
-      (rw (text-written hex 16 (encipherOf (makerWords key) (padOf 5 hw)), text-written hex 8 (crc32Of (hwIdPart key hw)), text-written hex 4 m))
+      (rw (hw-id-written, text-written hex 8 (crc32Of (hwIdPart key hw)), text-written hex 4 m))
+
+  pub permit-hex : allOf isHex (userPermit key hw m) ≡ true
+  permit-hex = written-is-read hex (userPermit key hw m) permit-written
 
   -- the three parts put one after the other, the CRC-32 being that of the first as it stands
   pub parts-put : (before first second third : List ℕ) (block crc : ℕ) → 28 ≤ length before
-      → block ≡ encipherOf (makerWords key) (padOf 5 hw) → first ≡ placed 0 (hexText 16 block) before
+      → block ≡ encipherOf (makerWords key) (padOf 5 (raisedHwId hw)) → first ≡ placed 0 (hexText 16 block) before
       → crc ≡ crc32Of (take 16 first) → second ≡ placed 16 (hexText 8 crc) first
       → third ≡ placed 24 (hexText 4 m) second → third ≡ userPermit key hw m ++ drop 28 before
   unfolding userPermit hwIdPart crcPart mIdPart
@@ -151,14 +158,14 @@ module _ (permit : List ℕ) where
   pub third-hex : allAt isHex 28 permit 0 ≡ true → allAt isHex 4 permit 24 ≡ true
   third-hex all = all-right isHex 8 4 permit 16 (all-right isHex 16 12 permit 0 all)
 
-  pub crc-right : (check crc : ℕ) → check ≡ hexNumber (part 8 permit 16) → crc ≡ crc32Of (part 16 permit 0) → check ≡ crc → isCrcRight permit ≡ true
+  pub crc-right : (check crc : ℕ) → check ≡ hexNumber (part 8 permit 16) → crc ≡ crc32Of (raisedText (part 16 permit 0)) → check ≡ crc → isCrcRight permit ≡ true
   unfolding isCrcRight
-  crc-right check crc is of same = eq-eqb (hexNumber (part 8 permit 16)) (crc32Of (part 16 permit 0)) (sym is ∙ same ∙ of)
+  crc-right check crc is of same = eq-eqb (hexNumber (part 8 permit 16)) (crc32Of (raisedText (part 16 permit 0))) (sym is ∙ same ∙ of)
 
-  pub crc-wrong : (check crc : ℕ) → check ≡ hexNumber (part 8 permit 16) → crc ≡ crc32Of (part 16 permit 0) → (check ≡ crc → ⊥) → isCrcRight permit ≡ false
+  pub crc-wrong : (check crc : ℕ) → check ≡ hexNumber (part 8 permit 16) → crc ≡ crc32Of (raisedText (part 16 permit 0)) → (check ≡ crc → ⊥) → isCrcRight permit ≡ false
   unfolding isCrcRight
   crc-wrong check crc is of differ =
-      ne-eqb (hexNumber (part 8 permit 16)) (crc32Of (part 16 permit 0)) (λ same. differ (is ∙ same ∙ sym of))
+      ne-eqb (hexNumber (part 8 permit 16)) (crc32Of (raisedText (part 16 permit 0))) (λ same. differ (is ∙ same ∙ sym of))
 
 module _ (register : List ℕ) (hw m room : ℕ) where
   pub made-damaged : isRegister register ≡ false → made register hw m room ≡ refusal 109

@@ -3,4 +3,5 @@ pub mod UserPermit
 pub mod Answers
 pub mod ReadBack
 pub mod OneCharacter
+pub mod EitherCase
 pub mod Laws

@@ -9,13 +9,13 @@ use Rattle.bytes.specs.Every.{allOf}
 use Rattle.bytes.specs.Padding.{padOf, unpadOf}
 use Rattle.bytes.specs.declared.numbers.Reading.{Reading}
 use Rattle.bytes.specs.declared.numbers.Reading.the-variants.{Number, Wrong}
-use Rattle.text.specs.Characters.{isHex, hexText, hexNumber}
+use Rattle.text.specs.Characters.{raisedText, isHex, hexText, hexNumber}
 use Rattle.text.specs.Texts.{part}
 use Rattle.crc32.specs.Crc32.{crc32Of}
 use Rattle.blowfish.specs.Cipher.{encipherOf, decipherOf}
 use Rattle.blowfish.specs.Schedule.{schedule}
 use Rattle.forms.specs.Order.{demand}
-use Rattle.forms.specs.Identifiers.{isHwId}
+use Rattle.forms.specs.Identifiers.{isHwId, isUpperHwId, raisedHwId}
 use Rattle.forms.specs.Output.{Output, text, refusal}
 use Rattle.user_permit.specs.Register.{isRegister, keyOf}
 use Rattle.user_permit.specs.declared.register.Maker.{Maker}
@@ -27,9 +27,9 @@ use Rattle.user_permit.specs.declared.UserPermit.the-variants.{Ship, Ref
 abbrev pub makerWords : ℕ → List ℕ
 makerWords key = schedule (bytesOf 5 key)
 
--- 16 hex characters: the padded HW_ID enciphered under M_KEY
+-- 16 hex characters: the HW_ID, its letters raised, padded and enciphered under M_KEY
 unfoldable pub hwIdPart : ℕ → ℕ → List ℕ
-hwIdPart key hw = hexText 16 (encipherOf (makerWords key) (padOf 5 hw))
+hwIdPart key hw = hexText 16 (encipherOf (makerWords key) (padOf 5 (raisedHwId hw)))
 
 -- 8: the CRC-32 of those 16 characters as text
 unfoldable pub crcPart : List ℕ → List ℕ
@@ -56,21 +56,21 @@ made register hw m room =
     (demand (isHwId hw) (refusal 18)
     (madeFor (keyOf register m) hw m)))
 
--- 28 of 0-9 A-F
+-- 28 of 0-9 A-F a-f
 unfoldable pub isPermitText : List ℕ → Bool
 isPermitText permit = eqb (length permit) 28 && allOf isHex permit
 
--- the CRC-32 part is that of the 16 characters
+-- the CRC-32 part is that of the 16 characters with their letters raised
 unfoldable pub isCrcRight : List ℕ → Bool
-isCrcRight permit = eqb (hexNumber (part 8 permit 16)) (crc32Of (part 16 permit 0))
+isCrcRight permit = eqb (hexNumber (part 8 permit 16)) (crc32Of (raisedText (part 16 permit 0)))
 
 -- the M_ID that the permit names
 abbrev pub permitMId : List ℕ → ℕ
 permitMId permit = hexNumber (part 4 permit 24)
 
--- what was deciphered has its padding and the form of a HW_ID, else 18
+-- what was deciphered has its padding and the form of a HW_ID in upper case, else 18
 abbrev pub shipOf : Reading → ℕ → UserPermit
-shipOf (Number hw) m = demand (isHwId hw) (Refused 18) (Ship hw m)
+shipOf (Number hw) m = demand (isUpperHwId hw) (Refused 18) (Ship hw m)
 shipOf Wrong m = Refused 18
 
 -- with the manufacturer's key, if there is one: 107 where M_ID is not in the register

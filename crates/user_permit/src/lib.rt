@@ -4,17 +4,24 @@ ghost use mathlib.Core.List.{_++_};
 ghost use Prim.Native.Nat.{_≤_};
 ghost use lib.ListN.{length, drop};
 ghost use Rattle.bytes.specs.Padding.{padOf, unpadOf};
+ghost use Rattle.text.specs.Characters.{raisedText};
+ghost use Rattle.text.specs.Texts.{part};
+ghost use Rattle.crc32.specs.Crc32.{crc32Of};
 ghost use Rattle.blowfish.specs.Cipher.{encipherOf, decipherOf};
+ghost use Rattle.forms.specs.Identifiers.{raisedHwId};
 ghost use Rattle.forms.specs.Output.{writtenOf, lentAfter};
 ghost use Rattle.user_permit.specs.UserPermit.{makerWords, userPermit, made, shipOf, permitSays, readPermit};
 use bytes::numbers::Reading;
 use forms::Written;
 use forms::identifiers::is_hw_id;
+use forms::identifiers::is_upper_hw_id;
+use forms::identifiers::raised_hw_id;
 use register::Maker;
 use register::is_register;
 use register::key_of;
 use text::reading::hex_at;
 use text::writing::put_hex;
+use text::writing::put_raised;
 
 pub mod register; // register.rt: the manufacturers' M_IDs and M_KEYs
 
@@ -24,14 +31,14 @@ pub enum UserPermit {
     Refused(u32),
 }
 
-// The padded HW_ID enciphered under M_KEY.
+// The HW_ID, its letters raised, padded and enciphered under M_KEY.
 fn enciphered(key: u64, hw: u64) -> u64
-    ensures { λ r. ⌜ r ≡ encipherOf (makerWords key) (padOf 5 hw) ⌝ }
+    ensures { λ r. ⌜ r ≡ encipherOf (makerWords key) (padOf 5 (raisedHwId hw)) ⌝ }
 {
     let bytes = bytes::numbers::bytes40(key);
     let mut words = [0u32; 1042];
     blowfish::key_schedule(&bytes, &mut words);
-    blowfish::encipher(&words, bytes::padding::pad40(hw))
+    blowfish::encipher(&words, bytes::padding::pad40(raised_hw_id(hw)))
 }
 
 // The block deciphered under M_KEY, without its padding.
@@ -75,17 +82,27 @@ pub fn make_user_permit(register: &[u8], hw: u64, m: u32, out: &mut [u8]) -> Wri
     Written::Length(28)
 }
 
-// The ship of a block: its HW_ID must have its padding and its form.
+// The ship of a block: its HW_ID must have its padding and its form, in upper case.
 fn ship_of(key: u64, block: u64, m: u32) -> UserPermit
     ensures { λ r. ⌜ r ≡ shipOf (unpadOf 5 (decipherOf (makerWords key) block)) m ⌝ }
 {
     let Reading::Number(hw) = deciphered(key, block) else {
         return UserPermit::Refused(18);
     };
-    if !is_hw_id(hw) {
+    if !is_upper_hw_id(hw) {
         return UserPermit::Refused(18);
     }
     UserPermit::Ship { hw_id: hw, m_id: m }
+}
+
+// The CRC-32 of the 16 characters with their letters raised.
+fn crc_of(permit: &[u8]) -> u32
+    requires { ⌜ 16 ≤ length (now permit) ⌝ }
+    ensures { λ r. ⌜ r ≡ crc32Of (raisedText (part 16 (now (permit .entry)) 0)) ⌝ }
+{
+    let mut raised = [0u8; 16];
+    put_raised(&mut raised, 0, &permit[..16]);
+    crc32::crc32(&raised)
 }
 
 // The HW_ID and M_ID that a user permit says, by a register that the caller has judged.
@@ -104,7 +121,7 @@ pub fn read_by(register: &[u8], permit: &[u8]) -> UserPermit
     let Reading::Number(m) = hex_at(permit, 24, 4) else {
         return UserPermit::Refused(106);
     };
-    if check != crc32::crc32(&permit[..16]) as u64 {
+    if check != crc_of(permit) as u64 {
         return UserPermit::Refused(17);
     }
     let Maker::Key(key) = key_of(register, m as u32) else {

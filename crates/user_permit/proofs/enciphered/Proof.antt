@@ -1,6 +1,7 @@
 -- `user_permit::enciphered` meets its contract. Assumes nothing.
-use mathlib.Core.Path.{ap₂, _∙_}
+use mathlib.Core.Path.{ap, ap₂, _∙_}
 use borrow.Author.Needs.{needs}
+use Rattle.bytes.specs.Padding.{padOf}
 use Rattle.blowfish.specs.Cipher.{encipherOf}
 use Rattle.user_permit.proofs.UserPermits.{maker-words}
 use Rattle.user_permit.proofs.enciphered.Statement.{statement}
@@ -15,6 +16,9 @@ slice-aggregate-key-schedule c = search needs
 key-schedule-requires : tie.Need-key-schedule-requires
 key-schedule-requires c κs = search needs
 
+raised-hw-id-requires : tie.Need-raised-hw-id-requires
+raised-hw-id-requires c κs = search needs
+
 pad40-requires : tie.Need-pad40-requires
 pad40-requires c κs = search needs
 
@@ -23,9 +27,11 @@ encipher-requires c κs = search needs
 
 returns : tie.Need-returns
 returns c =
-    let scheduled = c .before .before .before in
+    let padded = c .before in
+    let scheduled = padded .before .before .before in
     c .encipher .ensures
-    ∙ ap₂ encipherOf (maker-words _ _ _ _ (scheduled .before .before .before .bytes40 .ensures) (scheduled .key-schedule .ensures .1)) (c .before .pad40 .ensures)
+    ∙ ap₂ encipherOf (maker-words _ _ _ _ (scheduled .before .before .before .bytes40 .ensures) (scheduled .key-schedule .ensures .1))
+    (padded .pad40 .ensures ∙ ap (padOf 5) (padded .before .raised-hw-id .ensures))
 
 pub enciphered-spec : {M : Type 1} → statement M
 enciphered-spec =
@@ -34,6 +40,7 @@ enciphered-spec =
     bytes40-requires
     slice-aggregate-key-schedule
     key-schedule-requires
+    raised-hw-id-requires
     pad40-requires
     encipher-requires
     returns)

@@ -5,8 +5,6 @@ use mathlib.Core.List.{List}
 use Prim.Native.Nat.{ℕ, _^_, _<_}
 use native.Mathlib.Omega.{arith}
 use borrow.Author.Needs.{needs}
-use lib.ListN.{length}
-use lib.Seq.{length-take-le}
 use Rattle.bytes.specs.Padding.{unpadOf}
 use Rattle.text.specs.Characters.{isHex, hexNumber}
 use Rattle.text.specs.Texts.{part, allAt}
@@ -51,10 +49,10 @@ hex-text c =
     let two = c .before .before .before .before in
     parts-hex _ (sized c .if1 .left) (first (two .before .before .before .before) .0) (second two .0) (third c .0)
 
-right-crc : (c : tie.Else2) → isCrcRight (permit (sized (c .before .before .before))) ≡ true
+right-crc : (c : tie.Else2) → isCrcRight (permit (sized (c .before .before))) ≡ true
 right-crc c =
-    let two = c .before .before .before .before .before .before .before in
-    crc-right _ _ _ (second two .1) (c .before .crc32 .ensures) (c .if2 .left)
+    let two = c .before .before .before .before .before .before in
+    crc-right _ _ _ (second two .1) (c .before .crc-of .ensures) (c .if2 .left)
 
 returns : tie.Need-returns
 returns c = sym (says-no-text _ _ (not-28 _ (c .if1 .taken)))
@@ -101,24 +99,19 @@ returns-4 c =
     let sized = c .before .before .before .before .before .before .before .before .before .before .before in
     sym (says-no-text _ _ (no-text (permit sized) (sized .if1 .left) 4 24 (third-hex (permit sized)) (hex-wrong 4 (permit sized) 24 (omega arith) (sym (c .before .before .hex-at3 .ensures) ∙ c .enum-told3 .given .1))))
 
-slice-aggregate-crc32 : tie.Need-slice-aggregate-crc32
-slice-aggregate-crc32 c =
-    let size : length (permit (sized (c .before))) ≡ 28 = sized (c .before) .if1 .left in
-    sym (length-take-le 16 (permit (sized (c .before))) (omega arith))
-
-crc32-requires : tie.Need-crc32-requires
-crc32-requires c κs = search needs
+crc-of-requires : tie.Need-crc-of-requires
+crc-of-requires c κs = omega (arith, sized c .if1 .left)
 
 cast-if2 : tie.Need-cast-if2
 cast-if2 c = search needs
 
 returns-5 : tie.Need-returns-5
 returns-5 c =
-    let three = c .before .before .before in
-    sym (says-wrong-crc _ _ (hex-text three) (crc-wrong _ _ _ (second (three .before .before .before .before) .1) (c .before .crc32 .ensures) (c .if2 .taken)))
+    let three = c .before .before in
+    sym (says-wrong-crc _ _ (hex-text three) (crc-wrong _ _ _ (second (three .before .before .before .before) .1) (c .before .crc-of .ensures) (c .if2 .taken)))
 
 cast-key-of : tie.Need-cast-key-of
-cast-key-of c = record { fits = m-fits (c .before .before .before) }
+cast-key-of c = record { fits = m-fits (c .before .before) }
 
 key-of-requires : tie.Need-key-of-requires
 key-of-requires c κs = search needs
@@ -132,11 +125,11 @@ enum-told-4 c = search needs
 returns-6 : tie.Need-returns-6
 returns-6 c =
     let asked = c .before .before in
-    let three = asked .before .before .before .before in
+    let three = asked .before .before .before in
     sym (says-unknown _ _ (hex-text three) (right-crc (asked .before)) (ap (keyOf (register (sized three))) (sym (third three .1)) ∙ sym (asked .key-of .ensures) ∙ c .enum-told4 .given .1))
 
 cast-ship-of : tie.Need-cast-ship-of
-cast-ship-of c = record { fits = m-fits (c .before .before .before .before .before .before .before) }
+cast-ship-of c = record { fits = m-fits (c .before .before .before .before .before .before) }
 
 ship-of-requires : tie.Need-ship-of-requires
 ship-of-requires c κs = search needs
@@ -145,7 +138,7 @@ returns-7 : tie.Need-returns-7
 returns-7 c =
     let known = c .before .before in
     let asked = known .before .before in
-    let three = asked .before .before .before .before in
+    let three = asked .before .before .before in
     let one = three .before .before .before .before .before .before .before .before in
     let key = known .key .given .0 .0 in
     c .ship-of .ensures
@@ -169,8 +162,7 @@ read-by-spec =
     enum-known-m
     enum-told-3
     returns-4
-    slice-aggregate-crc32
-    crc32-requires
+    crc-of-requires
     cast-if2
     returns-5
     cast-key-of

@@ -21,18 +21,18 @@ returns : tie.Need-returns
 returns c =
     ap (λ (x : Reading). shipOf x (c .before .before .before .args .m)) (sym (c .enum-told .given .1) ∙ c .before .before .deciphered .ensures)
 
-is-hw-id-requires : tie.Need-is-hw-id-requires
-is-hw-id-requires c κs = search needs
+is-upper-hw-id-requires : tie.Need-is-upper-hw-id-requires
+is-upper-hw-id-requires c κs = search needs
 
 returns-2 : tie.Need-returns-2
 returns-2 c =
     let known = c .before .before .before in
-    sym (no-hw-id _ _ (known .before .before .before .args .m) (sym (known .before .before .deciphered .ensures) ∙ known .hw .given .1) (sym (c .before .is-hw-id .ensures) ∙ not-true _ (c .if1 .taken)))
+    sym (no-hw-id _ _ (known .before .before .before .args .m) (sym (known .before .before .deciphered .ensures) ∙ known .hw .given .1) (sym (c .before .is-upper-hw-id .ensures) ∙ not-true _ (c .if1 .taken)))
 
 returns-3 : tie.Need-returns-3
 returns-3 c =
     let known = c .before .before .before in
-    sym (a-ship _ _ (known .before .before .before .args .m) (sym (known .before .before .deciphered .ensures) ∙ known .hw .given .1) (sym (c .before .is-hw-id .ensures) ∙ not-false _ (c .if1 .left)))
+    sym (a-ship _ _ (known .before .before .before .args .m) (sym (known .before .before .deciphered .ensures) ∙ known .hw .given .1) (sym (c .before .is-upper-hw-id .ensures) ∙ not-false _ (c .if1 .left)))
 
 pub ship-of-spec : {M : Type 1} → statement M
 ship-of-spec =
@@ -42,6 +42,6 @@ ship-of-spec =
     enum-known-hw
     enum-told
     returns
-    is-hw-id-requires
+    is-upper-hw-id-requires
     returns-2
     returns-3)
