@@ -16,3 +16,6 @@ pub mod FieldsOfLines
 pub mod LinesAsFields
 pub mod PermitRead
 pub mod LineBack
+pub mod EitherCases
+pub mod Capitals
+pub mod LineNumbers

@@ -2,7 +2,7 @@
 -- Assumes nothing.
 use mathlib.Core.Path.{_≡_, refl, sym, ap, _∙_}
 use mathlib.Core.Bool.{true}
-use mathlib.Core.List.{List, [], _∷_, _++_, append-assoc}
+use mathlib.Core.List.{List, [], _∷_, _++_, append-assoc, map-append}
 use Prim.Native.Nat.{ℕ, _^_}
 use native.Mathlib.Omega.{arith}
 use borrow.Author.Tests.{le-leb, eq-eqb}
@@ -11,12 +11,14 @@ use Rattle.bytes.specs.Numbers.{Below}
 use Rattle.bytes.specs.Every.{allOf}
 use Rattle.bytes.specs.Padding.{padOf}
 use Rattle.bytes.proofs.Every.{either}
-use Rattle.text.specs.Characters.{hexText, hexNumber, decimalText}
+use Rattle.text.specs.Characters.{raisedText, isNameCharacter, hexText, hexNumber, decimalText}
 use Rattle.text.specs.Texts.{part}
-use Rattle.text.proofs.Alphabets.{text-length, text-written, number-of-text-fit}
-use Rattle.text.proofs.Notations.{hex}
+use Rattle.text.proofs.Alphabets.{text-length, text-written, written-is-read, number-of-text-fit}
+use Rattle.text.proofs.Notations.{hex, decimal}
+use Rattle.text.proofs.Raising.{digits-stay, names-stay, written-stays}
 use Rattle.blowfish.specs.Cipher.{encipherOf}
 use Rattle.forms.specs.Identifiers.{isHwId}
+use Rattle.forms.proofs.Fits.{text-all}
 use Rattle.cell_permit.specs.CellPermit.{comma, keyPart, unchecked, checkOf, cellPermit, fields, lineOf, shipWords, writtenLine}
 use Rattle.cell_permit.specs.Line.{isLine, partsOf, checked, readWith, givenNumber, readLine}
 use Rattle.cell_permit.specs.LineFields.{LineFields, permitText, lineText, HexPart, AreFields, partsFor}
@@ -35,7 +37,7 @@ regroup : (a b c d e l n s : List ℕ)
 regroup a b c d e l n s = simp append-assoc
 
 hex-part : (x : ℕ) → HexPart (hexText 16 x)
-hex-part x = record { size = text-length hex 16 x; hex = text-written hex 16 x }
+hex-part x = record { size = text-length hex 16 x; hex = written-is-read hex (hexText 16 x) (text-written hex 16 x) }
 
 module _ (words : List ℕ) (cell : Cell) (good : Good cell) where
   -- the fields that are written
@@ -87,16 +89,32 @@ module _ (words : List ℕ) (cell : Cell) (good : Good cell) where
       (record { front = []; split = append-assoc (unchecked words cell) (check words cell) (fields cell); place = refl })
       48 (unchecked-size words cell)
 
+  key-stays : (key : ℕ) → raisedText (keyPart words key) ≡ keyPart words key
+  unfolding keyPart
+  key-stays key = written-stays _ (text-written hex 16 _)
+
+  -- what is written has no small letters, so its check is taken of it as it stands
+  pub written-raised : raisedText (unchecked words cell) ≡ unchecked words cell
+  unfolding unchecked
+  written-raised =
+      simp map-append
+      (rw (
+        names-stay (name cell) (text-all isNameCharacter 8 (cell .name) (good .name)),
+        digits-stay (date cell) (text-written decimal 8 (cell .expiry)),
+        key-stays (cell .key1),
+        key-stays (cell .key2),
+      ))
+
   module _ (good-words : Below (2 ^ 32) words) where
     key-number : (key : ℕ) → hexNumber (keyPart words key) ≡ encipherOf words (padOf 5 key)
     unfolding keyPart
     key-number key = number-of-text-fit hex 16 _ (enciphered-below words good-words 5 key (omega arith))
 
-    check-back : hexNumber (check words cell) ≡ checkOf words (part 48 (lineOf words cell) 0)
+    check-back : hexNumber (check words cell) ≡ checkOf words (raisedText (part 48 (lineOf words cell) 0))
     unfolding checkOf
     check-back =
         number-of-text-fit hex 16 (checkOf words (unchecked words cell)) (enciphered-below words good-words 4 _ (omega arith))
-        ∙ ap (checkOf words) (sym first-48)
+        ∙ ap (checkOf words) (sym (ap raisedText first-48 ∙ written-raised))
 
     read-back : (today days : ℕ) → readWith words today days (lineOf words cell) ≡ recordFor today days cell
     unfolding readWith checked

@@ -18,9 +18,8 @@ use Rattle.text.specs.Texts.{part, allAt}
 use Rattle.text.proofs.Alphabets.{text-of-number, number-below}
 use Rattle.text.proofs.Notations.{decimal}
 use Rattle.text.proofs.TextsAt.{all-within, all-there}
-use Rattle.dates.specs.Calendar.{isDate}
-use Rattle.dates.proofs.Bounds.{both}
 use Rattle.forms.specs.DateText.{isDateAt}
+use Rattle.forms.proofs.DateTexts.{date-tests}
 use Rattle.forms.proofs.NamesAt.{name-text, name-at}
 use Rattle.cell_permit.specs.CellPermit.{comma}
 use Rattle.cell_permit.specs.Line.{commaAt, editionLength, expiryOf}
@@ -35,16 +34,11 @@ hex-part : (s : List ℕ) (at : ℕ) → allAt isHex 16 s at ≡ true → HexPar
 hex-part s at all =
     record { size = part-length 16 s at (all-within isHex 16 s at all); hex = all-there isHex 16 s at all }
 
--- the eight digits of a date are those of its number, which is a date
-module _ (s : List ℕ) (at : ℕ) (good : isDateAt s at ≡ true) where
-  date-tests : (allAt isDigit 8 s at ≡ true) × (isDate (decimalNumber (part 8 s at)) ≡ true)
-  unfolding isDateAt
-  date-tests = both (allAt isDigit 8 s at) (isDate (decimalNumber (part 8 s at))) good
-
-  date-text : decimalText 8 (decimalNumber (part 8 s at)) ≡ part 8 s at
-  date-text =
-      rw (part-length 8 s at (all-within isDigit 8 s at (date-tests .0)))
-      at (text-of-number decimal (part 8 s at) (all-there isDigit 8 s at (date-tests .0)))
+-- the eight digits of a date are those of its number
+date-text : (s : List ℕ) (at : ℕ) → isDateAt s at ≡ true → decimalText 8 (decimalNumber (part 8 s at)) ≡ part 8 s at
+date-text s at good =
+    let digits = date-tests s at good .0 in
+    rw (part-length 8 s at (all-within isDigit 8 s at digits)) at (text-of-number decimal (part 8 s at) (all-there isDigit 8 s at digits))
 
 -- the first byte of a part is that of its place, where it is no empty part
 first-byte : (m : ℕ) (s : List ℕ) (at : ℕ) → getD (part m s at) 0 0 ≡ 48 → getD s at 0 ≡ 48

@@ -6,9 +6,10 @@ use mathlib.Core.List.{List}
 use Prim.Native.Nat.{ℕ, _≤_, _<_}
 use native.Mathlib.Omega.{arith}
 use borrow.Author.Tests.{le-leb, lt-leb, eq-eqb, ne-eqb}
-use lib.ListN.{length, take}
+use lib.ListN.{length}
 use Rattle.bytes.specs.declared.numbers.Reading.the-variants.{Number, Wrong}
-use Rattle.text.specs.Characters.{isHex}
+use Rattle.text.specs.Characters.{raisedText, isHex}
+use Rattle.text.specs.Texts.{part}
 use Rattle.text.proofs.TextsAt.{all-within}
 use Rattle.dates.specs.Notice.{daysLeft, noticeOf}
 use Rattle.dates.specs.declared.Notice.{Notice}
@@ -113,7 +114,7 @@ module _ (words : List ℕ) (today days : ℕ) (line : List ℕ) where
     unfolding readWith
     on-parts made = rw (line-good line p made, parts line p made)
 
-    module _ (k : ℕ) (check-there : k ≡ checkOf words (take 48 line)) where
+    module _ (k : ℕ) (check-there : k ≡ checkOf words (raisedText (part 48 line 0))) where
       pub refused-13 : (p .check ≡ k → ⊥) → Refused 13 ≡ checked words today days line p
       unfolding checked
       refused-13 other = rw (← check-there, ne-eqb (p .check) k other)

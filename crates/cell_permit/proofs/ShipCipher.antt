@@ -14,7 +14,7 @@ use Rattle.bytes.proofs.Pads.{pad-below, pad-injective, unpad-pad-fit}
 use Rattle.crc32.specs.Crc32.{crc32Of}
 use Rattle.blowfish.specs.Cipher.{encipherOf, decipherOf}
 use Rattle.blowfish.proofs.Words.{number-back, blocks-stay-blocks, keys-have-words}
-use Rattle.forms.specs.Identifiers.{hwId6}
+use Rattle.forms.specs.Identifiers.{raisedHwId, hwId6}
 use Rattle.cell_permit.specs.CellPermit.{shipWords, checkOf}
 use Rattle.cell_permit.specs.Line.{keyUnder}
 
@@ -26,8 +26,9 @@ append-below (c ∷ s) t hs ht (suc i) = append-below s t (λ j. hs (suc j)) ht 
 pub ship-words : (hw : ℕ) → Below (2 ^ 32) (shipWords hw)
 unfolding shipWords hwId6
 ship-words hw =
-    let bytes = digits-below 256 5 hw (lit< tt) in
-    keys-have-words (hwId6 hw) (append-below (bytesOf 5 hw) (take 1 (bytesOf 5 hw)) bytes (take-below 1 (bytesOf 5 hw) bytes))
+    let id = raisedHwId hw in
+    let bytes = digits-below 256 5 id (lit< tt) in
+    keys-have-words (hwId6 id) (append-below (bytesOf 5 id) (take 1 (bytesOf 5 id)) bytes (take-below 1 (bytesOf 5 id) bytes))
 
 crc-below : (s : List ℕ) → crc32Of s < 256 ^ 4
 unfolding crc32Of

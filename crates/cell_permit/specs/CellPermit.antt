@@ -13,13 +13,13 @@ use Rattle.crc32.specs.Crc32.{crc32Of}
 use Rattle.blowfish.specs.Cipher.{encipherOf}
 use Rattle.blowfish.specs.Schedule.{schedule}
 use Rattle.forms.specs.Order.{demand}
-use Rattle.forms.specs.Identifiers.{isHwId, isCellName, isCellKey, isServerId, hwId6}
+use Rattle.forms.specs.Identifiers.{isHwId, raisedHwId, isCellName, isCellKey, isServerId, hwId6}
 use Rattle.forms.specs.Output.{Output, text, refusal}
 use Rattle.cell_permit.specs.declared.Cell.{Cell}
 
--- the words of a ship: those of HW_ID6
+-- the words of a ship: those of HW_ID6, made of the HW_ID with its letters raised
 unfoldable pub shipWords : ℕ → List ℕ
-shipWords hw = schedule (hwId6 hw)
+shipWords hw = schedule (hwId6 (raisedHwId hw))
 
 -- a cell key, padded and enciphered, in 16 hex characters
 unfoldable pub keyPart : List ℕ → ℕ → List ℕ

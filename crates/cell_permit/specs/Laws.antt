@@ -1,10 +1,10 @@
--- What the crates above rest on: laws of a line's comment.
+-- What the crates above rest on: laws of a line's comment and of its numbers.
 use mathlib.Core.Path.{_≡_}
 use mathlib.Core.List.{List, []}
-use Prim.Native.Nat.{ℕ, _≤_}
+use Prim.Native.Nat.{ℕ, _≤_, _<_}
 use lib.ListN.{length, drop}
 use Rattle.text.specs.Texts.{part}
-use Rattle.cell_permit.specs.Line.{commentOf, commentAt, commentStart}
+use Rattle.cell_permit.specs.Line.{commentOf, commentAt, commentStart, readWith, lineNumber}
 use Rattle.cell_permit.specs.declared.CommentPlace.the-variants as comment-place
 
 -- a comment begins within its line, or at its end
@@ -22,3 +22,7 @@ EmptyComment = (line : List ℕ) → commentAt line ≡ comment-place.None → c
 -- the part that is handed back is the comment: so many bytes of the line, from its start on
 abbrev pub CommentStands : Type 0
 CommentStands = (line : List ℕ) → part (length (commentOf line)) line (commentStart line) ≡ commentOf line
+
+-- reading a line under any words gives a number of two digits at most
+abbrev pub TwoDigits : Type 0
+TwoDigits = (words : List ℕ) (today days : ℕ) (line : List ℕ) → lineNumber (readWith words today days line) < 100

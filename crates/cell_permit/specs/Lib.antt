@@ -4,5 +4,6 @@ pub mod LineParts
 pub mod Answers
 pub mod ReadBack
 pub mod OneCharacter
+pub mod EitherCase
 pub mod LineFields
 pub mod Laws

@@ -9,7 +9,7 @@ use Rattle.bytes.specs.Padding.{unpadOf}
 use Rattle.bytes.specs.declared.numbers.Reading.{Reading}
 use Rattle.bytes.specs.declared.numbers.Reading.the-variants.{Number, Wrong}
 use Rattle.text.specs.Ascii.{byte}
-use Rattle.text.specs.Characters.{between, isDigit, isHex, isNameCharacter, isPrintable, hexNumber, decimalNumber}
+use Rattle.text.specs.Characters.{between, raisedText, isDigit, isHex, isNameCharacter, isPrintable, hexNumber, decimalNumber}
 use Rattle.text.specs.Texts.{part, allAt}
 use Rattle.dates.specs.Calendar.{isDate}
 use Rattle.dates.specs.Notice.{daysLeft, isDays, noticeOf}
@@ -109,10 +109,10 @@ recordOf today days p Wrong two = Refused 21
 abbrev pub keyUnder : List ℕ → ℕ → Reading
 keyUnder words block = unpadOf 5 (decipherOf words block)
 
--- the check part is right for this HW_ID, else 13: enciphered values are compared
+-- the check part is right for this HW_ID, else 13: enciphered values are compared, and that of the 48 characters is made with their letters raised
 unfoldable pub checked : List ℕ → ℕ → ℕ → List ℕ → Parts → Line
 checked words today days line p =
-    demand (eqb (p .check) (checkOf words (part 48 line 0))) (Refused 13)
+    demand (eqb (p .check) (checkOf words (raisedText (part 48 line 0)))) (Refused 13)
     (recordOf today days p (keyUnder words (p .block1)) (keyUnder words (p .block2)))
 
 -- reading a line under the words of a ship

@@ -4,7 +4,8 @@ ghost use Prim.Native.Nat.{_≤_};
 ghost use lib.ListN.{length, getD};
 ghost use denote.Ref.{ptr};
 ghost use Rattle.bytes.specs.Places.{pointAt};
-ghost use Rattle.text.specs.Characters.{isDigit};
+ghost use Rattle.text.specs.Characters.{raisedText, isDigit};
+ghost use Rattle.text.specs.Texts.{part};
 ghost use Rattle.cell_permit.specs.CellPermit.{shipWords, checkOf};
 ghost use Rattle.cell_permit.specs.Line.{commaAt, editionLength, shapeOf, commentOf, commentAt, commentStart, keyUnder, checked, givenNumber, readWith, readLine, lineNumber};
 ghost use Rattle.cell_permit.specs.LineParts.{permitOf, isLevelPart, isServerPart, fieldsOf};
@@ -92,11 +93,11 @@ enum Shape {
     Wrong,
 }
 
-// The words of a ship: those of HW_ID6, which is the HW_ID followed by its own first byte.
+// The words of a ship: those of HW_ID6, which is the HW_ID, its letters raised, followed by its own first byte.
 pub fn ship_words(hw: u64, words: &mut [u32; 1042])
     ensures { λ _. ⌜ now (words .exit) ≡ shipWords hw ⌝ }
 {
-    let b = bytes::numbers::bytes40(hw);
+    let b = bytes::numbers::bytes40(forms::identifiers::raised_hw_id(hw));
     let key = [b[0], b[1], b[2], b[3], b[4], b[0]];
     blowfish::key_schedule(&key, words);
 }
@@ -106,6 +107,16 @@ pub fn check_of(words: &[u32; 1042], s: &[u8]) -> u64
     ensures { λ r. ⌜ r ≡ checkOf (now (words .entry)) (now (s .entry)) ⌝ }
 {
     blowfish::encipher(words, bytes::padding::pad32(crc32::crc32(s)))
+}
+
+// The check of a line's first 48 characters with their letters raised.
+fn line_check(words: &[u32; 1042], line: &[u8]) -> u64
+    requires { ⌜ 48 ≤ length (now line) ⌝ }
+    ensures { λ r. ⌜ r ≡ checkOf (now (words .entry)) (raisedText (part 48 (now (line .entry)) 0)) ⌝ }
+{
+    let mut raised = [0u8; 48];
+    text::writing::put_raised(&mut raised, 0, &line[..48]);
+    check_of(words, &raised)
 }
 
 // A cell key as it was before it was padded and enciphered.
@@ -282,7 +293,7 @@ fn checked(words: &[u32; 1042], today: u32, days: u32, line: &[u8], p: Parts) ->
     requires { ⌜ 48 ≤ length (now line) ⌝ }
     ensures { λ r. ⌜ r ≡ checked (now (words .entry)) today days (now (line .entry)) p ⌝ }
 {
-    if p.check != check_of(words, &line[..48]) {
+    if p.check != line_check(words, line) {
         return Line::Refused(13);
     }
     let Reading::Number(key1) = key_under(words, p.block1) else {

@@ -2,7 +2,6 @@
 -- Assumes nothing.
 use mathlib.Core.Path.{_≡_, sym, _∙_}
 use borrow.Author.Needs.{needs}
-use lib.Seq.{length-take-le}
 use Rattle.bytes.specs.declared.numbers.Reading.the-variants.{Number}
 use Rattle.cell_permit.specs.Line.{keyUnder}
 use Rattle.cell_permit.proofs.ReadLines.{refused-13, refused-21-one, refused-21-two, is-record}
@@ -10,20 +9,15 @@ use Rattle.cell_permit.proofs.checked.Statement.{statement}
 use Rattle.cell_permit.proofs.checked.Tie as tie
 
 first-key : (c : tie.After-known-told)
-    → let start = c .before .before .before .before .before .before .before .before .before in
+    → let start = c .before .before .before .before .before .before .before .before in
     keyUnder (start .args .words .now) (start .args .p .block1) ≡ Number (c .before .key1 .given .0 .0)
 first-key c = sym (c .before .before .before .key-under .ensures) ∙ c .before .key1 .given .1
 
-slice-aggregate-check-of : tie.Need-slice-aggregate-check-of
-slice-aggregate-check-of c =
-    let start = c .before .before in
-    sym (length-take-le 48 (start .args .line .now) (start .pre))
-
-check-of-requires : tie.Need-check-of-requires
-check-of-requires c κs = search needs
+line-check-requires : tie.Need-line-check-requires
+line-check-requires c κs = search needs
 
 returns : tie.Need-returns
-returns c = refused-13 _ _ _ _ _ _ (c .before .before .check-of .ensures) (c .if1 .taken)
+returns c = refused-13 _ _ _ _ _ _ (c .before .before .line-check .ensures) (c .if1 .taken)
 
 key-under-requires : tie.Need-key-under-requires
 key-under-requires c κs = search needs
@@ -37,7 +31,7 @@ enum-told c = search needs
 returns-2 : tie.Need-returns-2
 returns-2 c =
     let right = c .before .before .before in
-    refused-21-one _ _ _ _ _ _ (right .before .before .check-of .ensures) (right .if1 .left)
+    refused-21-one _ _ _ _ _ _ (right .before .before .line-check .ensures) (right .if1 .left)
     (sym (c .before .before .key-under .ensures) ∙ c .enum-told .given .1)
 
 key-under-requires-2 : tie.Need-key-under-requires-2
@@ -53,7 +47,7 @@ returns-3 : tie.Need-returns-3
 returns-3 c =
     let one = c .before .before .before in
     let right = one .before .before .before .before in
-    refused-21-two _ _ _ _ _ _ (right .before .before .check-of .ensures) (right .if1 .left) _ (first-key one)
+    refused-21-two _ _ _ _ _ _ (right .before .before .line-check .ensures) (right .if1 .left) _ (first-key one)
     (sym (c .before .before .key-under2 .ensures) ∙ c .enum-told2 .given .1)
 
 notice-of-requires : tie.Need-notice-of-requires
@@ -64,15 +58,14 @@ returns-4 c =
     let two = c .before in
     let one = two .before .before .before .before in
     let right = one .before .before .before .before in
-    is-record _ _ _ _ _ _ (right .before .before .check-of .ensures) (right .if1 .left) _ (first-key one) _ _
+    is-record _ _ _ _ _ _ (right .before .before .line-check .ensures) (right .if1 .left) _ (first-key one) _ _
     (sym (two .before .before .before .key-under2 .ensures) ∙ two .before .key2 .given .1) (c .notice-of .ensures)
 
 pub checked-spec : {M : Type 1} → statement M
 checked-spec =
     tie.close
     (tie.spec
-    slice-aggregate-check-of
-    check-of-requires
+    line-check-requires
     returns
     key-under-requires
     enum-known-key1
