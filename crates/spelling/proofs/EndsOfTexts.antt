@@ -17,7 +17,7 @@ use Rattle.text.proofs.Alphabets as alphabets
 use Rattle.text.proofs.Notations.{hex, decimal, digit-low, between-low}
 use Rattle.text.proofs.PlacedTexts.{placed-start}
 use Rattle.dates.specs.Calendar.{isDate}
-use Rattle.forms.specs.Identifiers.{isText, isCellKey}
+use Rattle.forms.specs.Identifiers.{isText, raisedHwId, isCellKey}
 use Rattle.forms.proofs.Fits.{text-all}
 use Rattle.spelling.specs.Spelling.{identifierTo, keyTo, dateTo, spelled}
 use Rattle.spelling.specs.Ends.{untilZero, ReadByC, TextsEnd}
@@ -98,7 +98,7 @@ dates-read x =
 pub texts-end : TextsEnd
 texts-end = (
   identifiers-read isNameCharacter names-plain 8 (omega arith),
-  identifiers-read isUpperHex hex-plain 5 (omega arith),
+  λ x. identifiers-read isUpperHex hex-plain 5 (omega arith) (raisedHwId x),
   identifiers-read isNameCharacter names-plain 2 (omega arith),
   keys-read,
   dates-read,

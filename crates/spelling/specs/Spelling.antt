@@ -6,10 +6,10 @@ use lib.Dec.{eqb}
 use lib.ListN.{length, replicate}
 use Rattle.bytes.specs.Numbers.{bytesOf, bytesNumber}
 use Rattle.bytes.specs.Every.{allOf}
-use Rattle.text.specs.Characters.{isDigit, isHex, isUpperHex, isNameCharacter, hexText, hexNumber, decimalText, decimalNumber}
+use Rattle.text.specs.Characters.{raisedText, isDigit, isUpperHex, isNameCharacter, hexText, hexNumber, decimalText, decimalNumber}
 use Rattle.text.specs.Texts.{placed}
 use Rattle.dates.specs.Calendar.{isDate}
-use Rattle.forms.specs.Identifiers.{isText, isCellKey}
+use Rattle.forms.specs.Identifiers.{isText, raisedHwId, isCellKey}
 
 -- so many characters, each of which passes the test, and nothing else
 unfoldable pub isWord : (ℕ → Bool) → ℕ → List ℕ → Bool
@@ -30,17 +30,17 @@ identifierFrom none test n t = cond (isWord test n t) (bytesNumber t) none
 abbrev pub nameFrom : List ℕ → ℕ
 nameFrom t = identifierFrom none64 isNameCharacter 8 t
 
--- HW_ID: five characters of hex
+-- HW_ID: five of 0-9 A-F a-f, which are raised
 abbrev pub hwIdFrom : List ℕ → ℕ
-hwIdFrom t = identifierFrom none64 isHex 5 t
+hwIdFrom t = identifierFrom none64 isUpperHex 5 (raisedText t)
 
 -- a code, as M_ID and Data Server ID are: two of A-Z 0-9
 abbrev pub codeFrom : List ℕ → ℕ
 codeFrom t = identifierFrom none32 isNameCharacter 2 t
 
--- cell key: ten characters of hex
+-- cell key: ten of 0-9 A-F
 unfoldable pub keyFrom : List ℕ → ℕ
-keyFrom t = cond (isWord isHex 10 t) (hexNumber t) none64
+keyFrom t = cond (isWord isUpperHex 10 t) (hexNumber t) none64
 
 -- eight digits that are a date
 unfoldable pub isDateWord : List ℕ → Bool
@@ -58,9 +58,9 @@ identifierTo test n x = cond (isText test n x) (bytesOf n x) []
 abbrev pub nameTo : ℕ → List ℕ
 nameTo x = identifierTo isNameCharacter 8 x
 
--- HW_ID
+-- HW_ID, its letters raised
 abbrev pub hwIdTo : ℕ → List ℕ
-hwIdTo x = identifierTo isUpperHex 5 x
+hwIdTo x = identifierTo isUpperHex 5 (raisedHwId x)
 
 -- a code
 abbrev pub codeTo : ℕ → List ℕ

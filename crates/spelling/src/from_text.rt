@@ -30,14 +30,19 @@ pub fn name_from(text: &[u8]) -> u64
     bytes::numbers::number64(text, 0)
 }
 
-// HW_ID.
+// HW_ID: its letters are raised.
 pub fn hw_id_from(text: &[u8]) -> u64
     ensures { λ r. ⌜ r ≡ hwIdFrom (now (text .entry)) ⌝ }
 {
-    if !is_word(Alphabet::Hex, text, 5) {
+    if text.len() != 5 {
         return NONE_64;
     }
-    bytes::numbers::number40(text, 0)
+    let mut raised = [0u8; 5];
+    text::writing::put_raised(&mut raised, 0, text);
+    if !is_word(Alphabet::UpperHex, &raised, 5) {
+        return NONE_64;
+    }
+    bytes::numbers::number40(&raised, 0)
 }
 
 // M_ID or Data Server ID.
@@ -54,7 +59,7 @@ pub fn code_from(text: &[u8]) -> u32
 pub fn key_from(text: &[u8]) -> u64
     ensures { λ r. ⌜ r ≡ keyFrom (now (text .entry)) ⌝ }
 {
-    if text.len() != 10 {
+    if !is_word(Alphabet::UpperHex, text, 10) {
         return NONE_64;
     }
     match text::reading::hex_at(text, 0, 10) {

@@ -24,14 +24,15 @@ pub fn name_to(name: u64) -> [u8; 64]
     spelled(&bytes::numbers::bytes64(name))
 }
 
-// HW_ID.
+// HW_ID: its letters are raised.
 pub fn hw_id_to(hw: u64) -> [u8; 64]
     ensures { λ r. ⌜ r ≡ spelled (hwIdTo hw) ⌝ }
 {
-    if !forms::identifiers::is_hw_id(hw) {
+    let raised = forms::identifiers::raised_hw_id(hw);
+    if !forms::identifiers::is_upper_hw_id(raised) {
         return NOTHING;
     }
-    spelled(&bytes::numbers::bytes40(hw))
+    spelled(&bytes::numbers::bytes40(raised))
 }
 
 // M_ID or Data Server ID.
