@@ -5,3 +5,4 @@ pub mod QuotaRules
 pub mod FirstCell
 pub mod Issues
 pub mod DoneCalls
+pub mod EitherCases

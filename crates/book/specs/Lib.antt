@@ -3,3 +3,4 @@ pub mod Mixed
 pub mod Kept
 pub mod DoneCalls
 pub mod Quotas
+pub mod EitherCase

@@ -3,7 +3,7 @@ use mathlib.Core.Path.{refl}
 use lib.IntN.{pos}
 use Rattle.bytes.specs.Numbers.{digits, value}
 use Rattle.bytes.specs.Every.{allOf}
-use Rattle.text.specs.Characters.{isDigit, isUpperHex, hexCharacter}
+use Rattle.text.specs.Characters.{isDigit, raised, isUpperHex, isHex, hexCharacter}
 use Rattle.dates.specs.Calendar.{year, month, day, isLeap, monthLengths, daysIn, within, isDate, multiplesBelow, daysBeforeYear, sum, daysBeforeMonth, dayNumber}
 use Rattle.dates.specs.Notice.{daysLeft, noticeOf}
 use Rattle.dates.proofs.Left.{same-day}
@@ -23,7 +23,7 @@ a and b = (a, b)
 
 -- P1 to P12, in the table's order: antt computes all but P5 and P12
 pub known : EachHolds rows
-unfolding year month day isLeap monthLengths daysIn within isDate multiplesBelow daysBeforeYear sum daysBeforeMonth dayNumber daysLeft noticeOf digits value hexCharacter isDigit isUpperHex allOf isText hwId6 mIdPart givenNumber
+unfolding year month day isLeap monthLengths daysIn within isDate multiplesBelow daysBeforeYear sum daysBeforeMonth dayNumber daysLeft noticeOf digits value hexCharacter isDigit raised isUpperHex isHex allOf isText hwId6 mIdPart givenNumber
 known =
     (refl, refl)
     and (refl, refl)

@@ -1,3 +1,4 @@
 pub mod NextLines
 pub mod Steps
 pub mod Headers
+pub mod EitherCases

@@ -1,3 +1,4 @@
 pub mod File
 pub mod NextLine
 pub mod Steps
+pub mod EitherCase

@@ -6,3 +6,4 @@ pub mod Starts
 pub mod OneMore
 pub mod Listing
 pub mod Reports
+pub mod EitherCases

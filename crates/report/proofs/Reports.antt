@@ -16,13 +16,14 @@ use Rattle.forms.specs.Output.{text, refusal, writtenOf, lentAfter}
 use Rattle.forms.specs.declared.Written.the-variants as written
 use Rattle.cell_permit.specs.CellPermit.{shipWords}
 use Rattle.cell_permit.specs.Line.{readWith, givenNumber}
+use Rattle.cell_permit.proofs.LineNumbers.{two-digits}
 use Rattle.permit_file.specs.File.{isHeader, openOf, openNumber, firstPlace}
 use Rattle.permit_file.proofs.Headers.{header-within}
 use Rattle.report.specs.LookThrough.{isFirstLine, hwOf, todayOf, daysOf, fileOf, startNumber, answersOf, encAnswers, rowsFrom, totalsOf, refusedText, report, lineEndsIn, roomFor, reported}
 use Rattle.report.specs.Turns.{Few, tallyOf, lastField, totalsEnd, totalsText}
 use Rattle.report.specs.declared.rows.Tally.{Tally}
 use Rattle.report.proofs.LineEnds.{fewer-after}
-use Rattle.report.proofs.Room.{rows-room, read-short, all-few, few-tally}
+use Rattle.report.proofs.Room.{rows-room, all-few, few-tally}
 use Rattle.report.proofs.Starts.{too-long, wrong-shape, wrong-given, by-opening}
 use Rattle.report.proofs.Putting.{Put, next-fits, both-put}
 
@@ -90,7 +91,7 @@ module _ (input : List ℕ) (good : startNumber input ≡ 0) where
   unfolding answersOf
   rows-short =
       rows-room (readWith (shipWords (hwOf input)) (todayOf input) (daysOf input))
-      (read-short (shipWords (hwOf input)) (todayOf input) (daysOf input)) (fileOf input) (file-within input good) file-size
+      (two-digits (shipWords (hwOf input)) (todayOf input) (daysOf input)) (fileOf input) (file-within input good) file-size
 
   same-room : roomFor input ≡ 18 * lineEndsIn input + 118
   unfolding roomFor

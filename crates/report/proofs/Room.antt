@@ -7,21 +7,14 @@ use mathlib.Core.Logic.{_⊎_, inl, inr, ⊎-elim}
 use Prim.Native.Nat.{ℕ, zero, suc, _+_, _-_, _*_, _≤_, _<_}
 use native.Mathlib.Omega.{arith}
 use borrow.Author.Tests.{leb-true, ltb-true}
-use lib.Dec.{leb, ltb, eqb}
+use lib.Dec.{leb, ltb}
 use lib.ListN.{length, drop, length-append}
 use Rattle.bytes.proofs.Digits.{digits-length}
 use Rattle.bytes.proofs.Every.{either}
-use Rattle.bytes.specs.declared.numbers.Reading.{Reading}
-use Rattle.bytes.specs.declared.numbers.Reading.the-variants.{Number, Wrong}
-use Rattle.text.specs.Texts.{part, width}
+use Rattle.text.specs.Texts.{width}
 use Rattle.text.proofs.Numerals.{width-at-most, numeral-length}
-use Rattle.dates.specs.Notice.{daysLeft, noticeOf}
-use Rattle.dates.specs.Notice as notice
-use Rattle.dates.specs.declared.Notice.{Notice}
-use Rattle.dates.specs.declared.Notice.the-variants.{Current, Soon, Expired}
-use Rattle.forms.specs.Order.{demand}
-use Rattle.cell_permit.specs.CellPermit.{checkOf}
-use Rattle.cell_permit.specs.Line.{lineNumber, readWith, checked, recordOf, keyUnder, partsOf, isLine}
+use Rattle.forms.proofs.Demands.{demanded}
+use Rattle.cell_permit.specs.Line.{lineNumber}
 use Rattle.cell_permit.specs.declared.Line.{Line}
 use Rattle.cell_permit.specs.declared.Line.the-variants as line
 use Rattle.file_lines.specs.Lines.{lineEnds, lineAt, endsAt}
@@ -49,10 +42,6 @@ Past file place next = (suc (lineEndsIn (drop next file)) ≤ lineEndsIn (drop p
 record Onward (file : List ℕ) (place : ℕ) (s : Step) : Type 0 where
   short : stepNumber s < 100
   further : isEnd s ≡ false → Past file place (nextPlace s)
-
-demanded {ℓ} : {A : Type 0} (P : A → Type ℓ) (test : Bool) (a b : A) → P a → (test ≡ true → P b) → P (demand test a b)
-demanded P true a b pa pb = pb refl
-demanded P false a b pa pb = pa
 
 -- each line that is read has a number of two digits
 abbrev pub Short : (List ℕ → Line) → Type 0
@@ -175,30 +164,6 @@ few-tally place answers few =
   where
     kind : (test : Line → Bool) → countOf test answers < 100000
     kind test = omega (arith, few, kind-few test answers)
-
-notice-short : (n : Notice) → notice.noticeNumber n < 100
-notice-short Current = omega arith
-notice-short Soon = omega arith
-notice-short Expired = omega arith
-
-record-short : (today days : ℕ) (s : List ℕ) (one two : Reading) → lineNumber (recordOf today days (partsOf s) one two) < 100
-record-short today days s (Number one) (Number two) = notice-short (noticeOf (daysLeft today (partsOf s .expiry)) days)
-record-short today days s (Number one) Wrong = omega arith
-record-short today days s Wrong two = omega arith
-
--- a line read under any words has a number of two digits
-pub read-short : (words : List ℕ) (today days : ℕ) → Short (readWith words today days)
-unfolding readWith checked
-read-short words today days s =
-    let p = partsOf s in
-    let one = keyUnder words (p .block1) in
-    let two = keyUnder words (p .block2) in
-    demanded P (isLine s) (line.Refused 12) (checked words today days s p) (omega arith)
-    (λ shaped. demanded P (eqb (p .check) (checkOf words (part 48 s 0))) (line.Refused 13) (recordOf today days p one two) (omega arith)
-    (λ same. record-short today days s one two))
-  where
-    P : Line → Type 0
-    P a = lineNumber a < 100
 
 pub room-enough : RoomEnough
 unfolding roomFor

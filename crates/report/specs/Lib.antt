@@ -1,3 +1,4 @@
 pub mod LookThrough
 pub mod Enough
 pub mod Turns
+pub mod EitherCase

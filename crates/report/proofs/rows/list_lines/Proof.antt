@@ -8,11 +8,12 @@ use lib.ListN.{length}
 use Rattle.text.proofs.PlacedTexts.{length-placed}
 use Rattle.cell_permit.specs.Line.{readWith}
 use Rattle.cell_permit.specs.declared.Line.{Line}
+use Rattle.cell_permit.proofs.LineNumbers.{two-digits}
 use Rattle.permit_file.specs.File.{stepBy}
 use Rattle.report.specs.LookThrough.{rowsFrom, countOf}
 use Rattle.report.specs.Turns.{tallyOf}
 use Rattle.report.specs.declared.rows.Tally.{Tally}
-use Rattle.report.proofs.Room.{Short, read-short}
+use Rattle.report.proofs.Room.{Short}
 use Rattle.report.proofs.Listing.{Fitting, Going, going-start, few, turn-fits, going-turned, turn-rises, all-tallied, all-written}
 use Rattle.report.proofs.rows.list_lines.Statement.{statement}
 use Rattle.report.proofs.rows.list_lines.Tie as tie
@@ -50,7 +51,7 @@ module _ (at : tie.At-loop Inv-loop μ-loop) where
   short : Short read
   short =
       let args = at .before .before .before .args in
-      read-short (args .words .now) (args .today) (args .days)
+      two-digits (args .words .now) (args .today) (args .days)
 
 turn-requires : tie.Need-turn-requires Inv-loop μ-loop
 turn-requires c κs =
