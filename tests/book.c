@@ -473,6 +473,7 @@ static void issue_and_read(uint32_t tenant, const model_cell *cell)
     put_ship_line(&check, &(ship_line){.hw_id = c.hw_id});
     check.line_length = issued.length - 2;
     memcpy(check.line, issued.out, check.line_length);
+    type_hex(check.line + CIPHER_PARTS, CELL_PERMIT - CIPHER_PARTS);
     lambukir_line read = compare_call(book, BOOK, &lists, &check).line;
     lambukir_line expected = {cell->name, cell->key_one, cell->key_two, c.expiry, c.level, cell->edition, t->server, read.number};
     same((uint64_t)is_refusal(read.number), 0, "%s: a record", about);

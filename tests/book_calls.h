@@ -94,11 +94,11 @@ static inline uint32_t absent_m_id(void)
     }
 }
 
-/* A block that deciphers to no HW_ID: a bad character or a bad padding. */
+/* A block that deciphers to no HW_ID: a bad character, a small letter too, or a bad padding. */
 static inline uint64_t no_hw_id_block(void)
 {
     if (random_below(2))
-        return (some_text(HEX, 4) << 8 | (uint8_t)NO_HEX[random_below(sizeof NO_HEX)]) << 24 | 0x030303;
+        return (some_text(HEX, 4) << 8 | (uint8_t)NO_UPPER_HEX[random_below(sizeof NO_UPPER_HEX)]) << 24 | 0x030303;
     return (some_hw_id() << 24 | 0x030303) ^ (uint64_t)1 << random_below(24);
 }
 
@@ -135,17 +135,21 @@ static inline void make_materials(void)
         make_line(i);
 }
 
+/* User permits, HW_IDs and cipher parts are typed in either case. */
 static inline void put_permit(call *c, const ship *s)
 {
     c->hw_id = s->hw_id;
     memcpy(c->permit, s->permit, PERMIT);
+    type_hex(c->permit, PERMIT);
     c->permit_length = PERMIT;
 }
 
 static inline void put_ship_line(call *c, const ship_line *l)
 {
-    c->hw_id = l->hw_id;
+    c->hw_id = typed_hw_id(l->hw_id);
     memcpy(c->line, l->bytes, l->length);
+    if (l->length > 0)
+        type_hex(c->line + CIPHER_PARTS, CELL_PERMIT - CIPHER_PARTS);
     c->line_length = l->length;
 }
 

@@ -1,5 +1,5 @@
 /* Files opened and read line by line, against the model and against what the rules say of each case. */
-#define _DEFAULT_SOURCE
+#define _GNU_SOURCE /* memmem */
 #include <sys/mman.h>
 
 #include "calls.h"
@@ -34,7 +34,7 @@ static void walks(void)
         uint64_t hw_id = some_hw_id();
         uint32_t today = some_date();
         some_file(&file, hw_id, today, random_below(15));
-        walk(hw_id, today, i);
+        walk(typed_hw_id(hw_id), today, i);
     }
 }
 
@@ -205,7 +205,7 @@ static void refusals(void)
         uint64_t hw_id = some_hw_id();
         size_t next, place = put_state(state, hw_id, &next);
         ABOUT("reasons %X, line of kind %d, round %d", mask, (int)state, i / 8 / STATES);
-        lambukir_file_line line = compare_file_line(mask & 1 ? no_hw_id() : hw_id, mask & 2 ? no_date(1) : TODAY, mask & 4 ? PICK(no_days) : some_days(),
+        lambukir_file_line line = compare_file_line(mask & 1 ? no_hw_id() : typed_hw_id(hw_id), mask & 2 ? no_date(1) : TODAY, mask & 4 ? PICK(no_days) : some_days(),
                                                     file.bytes, file.length, place);
         expect(line.number, mask ? first_of(order, 3, mask) : numbers[state]);
         same(line.next, mask ? place : next, "%s: next place", about);
@@ -241,6 +241,42 @@ static void huge(void)
     munmap(map, size);
 }
 
+/* Turns the cipher parts' letters of each line that is a record, or is refused by 13 or 21, to the other case. The answers to come are those to the file as it was. */
+static void retype_lines(void)
+{
+    size_t place = HEADER_LENGTH;
+    for (size_t i = 0; i < file.lines; i++) {
+        const uint8_t *end = memmem(file.bytes + place, file.length - place, "\r\n", 2);
+        if (!end)
+            return;
+        for (size_t at = CIPHER_PARTS; file.numbers[i] != 12 && at < CELL_PERMIT; at++)
+            file.bytes[place + at] = other_case(file.bytes[place + at]);
+        place = (size_t)(end - file.bytes) + 2;
+    }
+}
+
+/* A file typed in another way gives line by line the same values, the same numbers and the same next places. */
+static void small_letters(void)
+{
+    static lambukir_file_line made[MOST_LINES];
+    for (int i = 0; i < 400; i++) {
+        uint64_t hw_id = some_hw_id();
+        size_t place = HEADER_LENGTH, count = 0;
+        some_file(&file, hw_id, TODAY, random_below(15));
+        for (; count < file.lines; place = made[count++].next)
+            made[count] = lambukir_read_file_line(hw_id, TODAY, 30, file.bytes, file.length, place);
+        retype_lines();
+        place = HEADER_LENGTH;
+        for (size_t n = 0; n < count; n++) {
+            ABOUT("file %d typed in another way, line %zu", i, n);
+            lambukir_file_line line = compare_file_line(typed_hw_id(hw_id), TODAY, 30, file.bytes, file.length, place);
+            same((uint64_t)memcmp(&line, &made[n], sizeof line), 0, "%s: the answer to the file as it was", about);
+            place = line.next;
+        }
+        walk(typed_hw_id(hw_id), TODAY, i);
+    }
+}
+
 int main(int argc, char **argv)
 {
     static const subject subjects[] = {
@@ -250,6 +286,7 @@ int main(int argc, char **argv)
         {"files-other-headers", other_headers},
         {"files-ends", ends},
         {"files-refusals", refusals},
+        {"files-small-letters", small_letters},
         {"files-huge", huge},
     };
     seed_random();

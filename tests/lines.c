@@ -77,7 +77,8 @@ static void good(void)
         record r = some_record(random_below(2) ? some_date() : days_after(today, random_below(95)));
         size_t length = line_of(&r, hw_id, line);
         ABOUT("good line %d", i);
-        lambukir_line read = compare_read_line(hw_id, today, some_days(), line, length);
+        type_hex(line + CIPHER_PARTS, CELL_PERMIT - CIPHER_PARTS);
+        lambukir_line read = compare_read_line(typed_hw_id(hw_id), today, some_days(), line, length);
         same((uint64_t)is_refusal(read.number), 0, "%s: a record", about);
         same_record(&read, &r);
         lambukir_part part = compare_comment(line, length);
@@ -88,7 +89,8 @@ static void good(void)
     }
 }
 
-/* Each position as each other byte: refused within the permit. Then a byte too many and one too few at each position. */
+/* Each position as each other byte: refused within the permit, but for the same letter of a cipher part in the other case. Then a byte too many and one
+   too few at each position. */
 static void damaged(void)
 {
     uint8_t line[ROOM], changed[ROOM];
@@ -102,8 +104,9 @@ static void damaged(void)
                 changed[at] = (uint8_t)(line[at] + add);
                 ABOUT("damaged line %d, byte %zu as %02X", i, at, changed[at]);
                 uint32_t number = compare_read_line(hw_id, 20240131, 30, changed, length).number;
+                int typed = at >= CIPHER_PARTS && changed[at] == other_case(line[at]);
                 if (at < CELL_PERMIT)
-                    same((uint64_t)is_refusal(number), 1, "%s: refused", about);
+                    same((uint64_t)is_refusal(number), !typed, "%s: refused", about);
             }
         for (size_t at = 0; at <= length; at++) {
             ABOUT("damaged line %d, a byte more or less at %zu", i, at);
@@ -133,12 +136,13 @@ static void refusals(void)
         if (mask & 32)
             *(random_below(2) ? &one : &two) ^= (uint64_t)1 << random_below(24);
         size_t length = line_over(&r, hw_id, one, two, line);
+        type_hex(line + CIPHER_PARTS, CELL_PERMIT - CIPHER_PARTS);
         if (mask & 16)
             change_hex(line + 48 + random_below(16));
         if (mask & 8)
             length = spoil_shape(line, length);
         ABOUT("reasons %X, round %d", mask, i / 64);
-        expect(compare_read_line(mask & 1 ? no_hw_id() : hw_id, mask & 2 ? no_date(1) : today, mask & 4 ? PICK(no_days) : some_days(), line, length).number,
+        expect(compare_read_line(mask & 1 ? no_hw_id() : typed_hw_id(hw_id), mask & 2 ? no_date(1) : today, mask & 4 ? PICK(no_days) : some_days(), line, length).number,
                first_of(order, 6, mask));
     }
 }
@@ -259,6 +263,77 @@ static void given(void)
     munmap(map, more + ROOM);
 }
 
+/* The answer to a line as it was typed, for a HW_ID as it was typed, is the one to the line as it was made. */
+static void compare_typed(uint64_t hw_id, const uint8_t *made, const uint8_t *typed, size_t length)
+{
+    lambukir_line theirs = lambukir_read_line(hw_id, 20240131, 30, made, length);
+    lambukir_line ours = compare_read_line(typed_hw_id(hw_id), 20240131, 30, typed, length);
+    same_line(&ours, &theirs);
+    lambukir_part a = lambukir_comment(typed, length), b = lambukir_comment(made, length);
+    same(a.start, b.start, "%s: start of the comment as typed", about);
+    same(a.length, b.length, "%s: length of the comment as typed", about);
+}
+
+/* A line with each letter of its cipher parts in the other case, all of them, and mixed; and each character as a byte next to the letters. */
+static void type_line(uint64_t hw_id, const uint8_t *made, size_t length, int which)
+{
+    uint8_t typed[ROOM];
+    for (size_t at = CIPHER_PARTS; at < CELL_PERMIT; at++) {
+        memcpy(typed, made, length);
+        typed[at] = other_case(made[at]);
+        ABOUT("line %d, character %zu in the other case", which, at);
+        compare_typed(hw_id, made, typed, length);
+        for (size_t i = 0; i < COUNT(beside_letters); i++) {
+            typed[at] = beside_letters[i];
+            ABOUT("line %d, character %zu as %02X", which, at, typed[at]);
+            expect(compare_read_line(hw_id, 20240131, 30, typed, length).number, 12);
+        }
+    }
+    for (int i = 0; i < 20; i++) {
+        memcpy(typed, made, length);
+        for (size_t at = CIPHER_PARTS; at < CELL_PERMIT; at++)
+            typed[at] = i == 0 || random_below(2) ? other_case(typed[at]) : typed[at];
+        ABOUT("line %d, typed in way %d", which, i);
+        compare_typed(hw_id, made, typed, length);
+    }
+}
+
+/* Each character before the cipher parts, and each of the Data Server ID, as a small letter: 12. */
+static void small_elsewhere(uint64_t hw_id, const uint8_t *made, size_t length, size_t server)
+{
+    uint8_t typed[ROOM];
+    for (size_t at = 0; at < server + 2; at = at + 1 == CIPHER_PARTS ? server : at + 1)
+        for (uint8_t c = 'a'; c <= 'f'; c++) {
+            memcpy(typed, made, length);
+            typed[at] = c;
+            ABOUT("character %zu as %c", at, c);
+            expect(compare_read_line(hw_id, 20240131, 30, typed, length).number, 12);
+        }
+}
+
+/* Lines of every answer from 12 on: good, of no shape, with another check part, with a wrong padding; and comments with letters in both cases, which stay. */
+static void small_letters(void)
+{
+    static const uint32_t numbers[] = {0, 12, 13, 21};
+    uint8_t line[ROOM];
+    for (int i = 0; i < 120; i++) {
+        uint64_t hw_id = some_hw_id();
+        record r = some_record(20240801);
+        strcpy(r.comment, "abc ABC, def DEF");
+        r.edition = 12;
+        size_t length = line_over(&r, hw_id, r.key_one << 24 | (i % 4 == 3 ? 0x030302 : 0x030303), r.key_two << 24 | 0x030303, line);
+        if (i % 4 == 0)
+            small_elsewhere(hw_id, line, length, 70);
+        if (i % 4 == 1)
+            line[CELL_PERMIT] = ';';
+        if (i % 4 == 2)
+            change_hex(line + 48 + random_below(16));
+        ABOUT("line %d", i);
+        expect(compare_read_line(hw_id, 20240131, 30, line, length).number, numbers[i % 4]);
+        type_line(hw_id, line, length, i);
+    }
+}
+
 int main(int argc, char **argv)
 {
     static const subject subjects[] = {
@@ -271,6 +346,7 @@ int main(int argc, char **argv)
         {"lines-comments", comments},
         {"lines-lengths", lengths},
         {"lines-given", given},
+        {"lines-small-letters", small_letters},
     };
     seed_random();
     return run_subjects(subjects, COUNT(subjects), argc, argv);

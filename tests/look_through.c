@@ -83,9 +83,10 @@ static void stored(void)
     globfree(&found);
 }
 
-/* The first line and what `file` holds. */
-static void put_input(uint64_t hw_id, uint32_t today, uint32_t days)
+/* The first line, its HW_ID typed in either case, and what `file` holds. */
+static void put_input(uint64_t given, uint32_t today, uint32_t days)
 {
+    uint64_t hw_id = typed_hw_id(given);
     char first[40];
     int first_length = snprintf(first, sizeof first, "xxxxx %08" PRIu32 " %02" PRIu32 "\r\n", today, days);
     for (int i = 0; i < 5; i++)

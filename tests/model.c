@@ -10,11 +10,10 @@
 
 bool is_register(const uint8_t *reg, size_t length)
 {
-    uint64_t m_key;
     if (length % ENTRY != 0 || length > LONGEST_REGISTER)
         return false;
     for (size_t at = 0; at < length; at += ENTRY) {
-        if (!is_name(reg + at, 2) || !read_hex(reg + at + 2, 5, &m_key))
+        if (!is_name(reg + at, 2) || !is_upper_hex(reg + at + 2, 5))
             return false;
         if (at > 0 && memcmp(reg + at - ENTRY, reg + at, 2) >= 0)
             return false;
@@ -51,16 +50,18 @@ uint32_t model_make_user_permit(const uint8_t *reg, size_t reg_length, uint64_t 
     const uint8_t *m_key = m_key_of(reg, reg_length, m_id);
     if (!m_key)
         return 107;
-    model_user_permit_of(m_key, pad_five(hw_id), m_id, out);
+    model_user_permit_of(m_key, pad_five(raised_hw_id(hw_id)), m_id, out);
     return 0;
 }
 
 lambukir_user_permit read_by_register(const uint8_t *reg, size_t reg_length, const uint8_t *permit, size_t permit_length)
 {
     uint64_t enciphered, crc, m_id;
+    uint8_t raised[16], hw_id[HW_ID_LENGTH];
     if (permit_length != USER_PERMIT || !read_hex(permit, 16, &enciphered) || !read_hex(permit + 16, 8, &crc) || !read_hex(permit + 24, 4, &m_id))
         return (lambukir_user_permit){.number = 106};
-    if (crc != crc32(0, permit, 16))
+    raise_letters(raised, permit, 16);
+    if (crc != crc32(0, raised, 16))
         return (lambukir_user_permit){.number = 17};
     const uint8_t *m_key = m_key_of(reg, reg_length, m_id);
     if (!m_key)
@@ -68,7 +69,8 @@ lambukir_user_permit read_by_register(const uint8_t *reg, size_t reg_length, con
     BF_KEY key;
     BF_set_key(&key, 5, m_key);
     uint64_t block = decipher(&key, enciphered);
-    if (!is_padded_five(block) || !is_hw_id(block >> 24))
+    bytes_of(hw_id, HW_ID_LENGTH, block >> 24);
+    if (!is_padded_five(block) || !is_upper_hex(hw_id, HW_ID_LENGTH))
         return (lambukir_user_permit){.number = 18};
     return (lambukir_user_permit){.hw_id = block >> 24, .m_id = (uint32_t)m_id};
 }
@@ -132,7 +134,9 @@ static uint32_t notice(uint32_t today, uint32_t expiry, uint32_t days)
 /* The number and the values of a line of good shape. */
 lambukir_line judge(const BF_KEY *hw_id6, uint32_t today, uint32_t days, const uint8_t *line, const line_fields *fields)
 {
-    if (encipher(hw_id6, pad_four(crc32(0, line, CHECKED))) != fields->check)
+    uint8_t raised[CHECKED];
+    raise_letters(raised, line, CHECKED);
+    if (encipher(hw_id6, pad_four(crc32(0, raised, CHECKED))) != fields->check)
         return (lambukir_line){.number = 13};
     uint64_t one = decipher(hw_id6, fields->block_one), two = decipher(hw_id6, fields->block_two);
     if (!is_padded_five(one) || !is_padded_five(two))

@@ -16,8 +16,8 @@
 
 /* One more than the value of a character; 0 for what is no hex character. */
 static const uint8_t hex_values[256] = {
-    ['0'] = 1, ['1'] = 2,  ['2'] = 3,  ['3'] = 4,  ['4'] = 5,  ['5'] = 6,  ['6'] = 7,  ['7'] = 8,
-    ['8'] = 9, ['9'] = 10, ['A'] = 11, ['B'] = 12, ['C'] = 13, ['D'] = 14, ['E'] = 15, ['F'] = 16,
+    ['0'] = 1,  ['1'] = 2,  ['2'] = 3,  ['3'] = 4,  ['4'] = 5,  ['5'] = 6,  ['6'] = 7,  ['7'] = 8,  ['8'] = 9,  ['9'] = 10, ['A'] = 11,
+    ['B'] = 12, ['C'] = 13, ['D'] = 14, ['E'] = 15, ['F'] = 16, ['a'] = 11, ['b'] = 12, ['c'] = 13, ['d'] = 14, ['e'] = 15, ['f'] = 16,
 };
 
 static inline bool is_digit(uint8_t c)
@@ -39,7 +39,23 @@ static inline bool is_name(const uint8_t *s, size_t length)
     return true;
 }
 
-/* The number of a hex text; false where a character is not 0-9 A-F. */
+/* A copy with a to f raised to A to F. */
+static inline void raise_letters(uint8_t *out, const uint8_t *s, size_t length)
+{
+    for (size_t i = 0; i < length; i++)
+        out[i] = s[i] >= 'a' && s[i] <= 'f' ? (uint8_t)(s[i] - 32) : s[i];
+}
+
+/* 0-9 A-F alone. */
+static inline bool is_upper_hex(const uint8_t *s, size_t length)
+{
+    for (size_t i = 0; i < length; i++)
+        if (!is_digit(s[i]) && (s[i] < 'A' || s[i] > 'F'))
+            return false;
+    return true;
+}
+
+/* The number of a hex text in either case; false where a character is none. */
 static inline bool read_hex(const uint8_t *s, size_t length, uint64_t *value)
 {
     uint64_t v = 0;
@@ -145,7 +161,7 @@ static inline uint64_t decipher(const BF_KEY *key, uint64_t block)
     return (uint64_t)halves[0] << 32 | halves[1];
 }
 
-/* Five of 0-9 A-F. */
+/* A given HW_ID: five of 0-9 A-F in either case. */
 static inline bool is_hw_id(uint64_t hw_id)
 {
     uint8_t text[HW_ID_LENGTH];
@@ -154,11 +170,20 @@ static inline bool is_hw_id(uint64_t hw_id)
     return hw_id >> 40 == 0 && read_hex(text, HW_ID_LENGTH, &value);
 }
 
-/* Sets up HW_ID6: the HW_ID followed by its own first byte. */
+/* Of a HW_ID that has the form. */
+static inline uint64_t raised_hw_id(uint64_t hw_id)
+{
+    uint8_t text[HW_ID_LENGTH], raised[HW_ID_LENGTH];
+    bytes_of(text, HW_ID_LENGTH, hw_id);
+    raise_letters(raised, text, HW_ID_LENGTH);
+    return number_of(raised, HW_ID_LENGTH);
+}
+
+/* Sets up HW_ID6: the raised HW_ID followed by its own first byte. */
 static inline void set_hw_id6(BF_KEY *key, uint64_t hw_id)
 {
     uint8_t text[HW_ID_LENGTH + 1];
-    bytes_of(text, HW_ID_LENGTH, hw_id);
+    bytes_of(text, HW_ID_LENGTH, raised_hw_id(hw_id));
     text[HW_ID_LENGTH] = text[0];
     BF_set_key(key, sizeof text, text);
 }

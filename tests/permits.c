@@ -50,7 +50,7 @@ static void worked(void)
     expect(compare_make(one, 7, number_from("1234G"), number_from("01"), PERMIT), 18);
 }
 
-/* A permit that was made reads back as it was made. */
+/* A permit that was made reads back as it was made, however its letters and those of the HW_ID are typed. */
 static void good(void)
 {
     static const size_t sizes[] = {1, 2, 3, 10, 255, 256};
@@ -61,14 +61,15 @@ static void good(void)
         uint64_t hw_id = some_hw_id();
         uint32_t m_id = some_m_id();
         expect(compare_make(reg, reg_length, hw_id, m_id, PERMIT + random_below(40)), 0);
-        expect(lambukir_make_user_permit(reg, reg_length, hw_id, m_id, permit, PERMIT), 0);
+        expect(lambukir_make_user_permit(reg, reg_length, typed_hw_id(hw_id), m_id, permit, PERMIT), 0);
+        type_hex(permit, PERMIT);
         lambukir_user_permit read = compare_read_permit(reg, reg_length, permit, PERMIT);
         same(read.hw_id, hw_id, "%s: HW_ID read back", about);
         same(read.m_id, m_id, "%s: M_ID read back", about);
     }
 }
 
-/* Each position of a permit as each other byte: refused, but perhaps in the manufacturer code. */
+/* Each position of a permit as each other byte: refused, but perhaps in the manufacturer code. The same letter in the other case is no damage. */
 static void damaged(void)
 {
     uint8_t permit[PERMIT + 1];
@@ -77,12 +78,13 @@ static void damaged(void)
         model_make_user_permit(reg, reg_length, some_hw_id(), some_m_id(), permit, PERMIT);
         for (size_t at = 0; at < PERMIT; at++)
             for (int add = 1; add < 256; add++) {
-                permit[at] = (uint8_t)(permit[at] + add);
+                uint8_t was = permit[at];
+                permit[at] = (uint8_t)(was + add);
                 ABOUT("damaged permit %d, byte %zu as %02X", i, at, permit[at]);
                 uint32_t number = compare_read_permit(reg, reg_length, permit, PERMIT).number;
-                if (at < 24)
-                    same((uint64_t)is_refusal(number), 1, "%s: refused", about);
-                permit[at] = (uint8_t)(permit[at] - add);
+                if (at < 24 || permit[at] == other_case(was))
+                    same((uint64_t)is_refusal(number), permit[at] != other_case(was), "%s: refused", about);
+                permit[at] = was;
             }
     }
 }
@@ -122,7 +124,7 @@ static void spoil_register(void)
     case 1: memset(reg + reg_length, '0', 6); reg_length += 1 + random_below(6); break;
     case 2: reg_length = some_register(reg, ENTRIES + 1); break;
     case 3: reg[entry + random_below(2)] = (uint8_t)NO_NAMES[random_below(sizeof NO_NAMES)]; break;
-    case 4: reg[entry + 2 + random_below(5)] = (uint8_t)NO_HEX[random_below(sizeof NO_HEX)]; break;
+    case 4: reg[entry + 2 + random_below(5)] = (uint8_t)NO_UPPER_HEX[random_below(sizeof NO_UPPER_HEX)]; break;
     default: memcpy(reg + entry + ENTRY_BYTES, reg + entry, 2);
     }
 }
@@ -134,7 +136,7 @@ static void make_refusals(void)
     for (int i = 0; i < 16 * 150; i++) {
         unsigned mask = (unsigned)i % 16;
         reg_length = some_register(reg, 2 + random_below(20));
-        uint64_t hw_id = mask & 4 ? no_hw_id() : some_hw_id();
+        uint64_t hw_id = mask & 4 ? no_hw_id() : typed_hw_id(some_hw_id());
         uint32_t m_id = mask & 8 ? absent_m_id(UINT32_MAX) : some_m_id();
         if (mask & 1)
             spoil_register();
@@ -143,11 +145,11 @@ static void make_refusals(void)
     }
 }
 
-/* A block that deciphers to no HW_ID: a bad character or a bad padding. */
+/* A block that deciphers to no HW_ID: a bad character, a small letter too, or a bad padding. */
 static uint64_t bad_block(void)
 {
     if (random_below(2))
-        return (some_text(HEX, 4) << 8 | (uint8_t)NO_HEX[random_below(sizeof NO_HEX)]) << 24 | 0x030303;
+        return (some_text(HEX, 4) << 8 | (uint8_t)NO_UPPER_HEX[random_below(sizeof NO_UPPER_HEX)]) << 24 | 0x030303;
     return (some_hw_id() << 24 | 0x030303) ^ (uint64_t)1 << random_below(24);
 }
 
@@ -163,6 +165,7 @@ static void read_refusals(void)
         memset(permit, '0', sizeof permit);
         model_user_permit_of(reg + entry * ENTRY_BYTES + 2, mask & 16 ? bad_block() : some_hw_id() << 24 | 0x030303,
                              mask & 8 ? absent_m_id(0xFFFF) : m_id_at(reg, entry), permit);
+        type_hex(permit, PERMIT);
         if (mask & 4)
             change_hex(permit + random_below(24));
         if (mask & 2 && random_below(2))
@@ -258,6 +261,81 @@ static void huge(void)
     munmap(map, more + 64);
 }
 
+/* The answer to a permit as it was typed is the one to the permit as it was made. */
+static void compare_typed(const uint8_t *made, const uint8_t *typed)
+{
+    lambukir_user_permit theirs = lambukir_read_user_permit(reg, reg_length, made, PERMIT);
+    lambukir_user_permit ours = compare_read_permit(reg, reg_length, typed, PERMIT);
+    expect(ours.number, theirs.number);
+    same(ours.hw_id, theirs.hw_id, "%s: HW_ID, against that of the permit as it was made", about);
+    same(ours.m_id, theirs.m_id, "%s: M_ID, against that of the permit as it was made", about);
+}
+
+/* A permit with each letter in the other case, all of them, and mixed; and each character as a byte next to the letters. */
+static void type_permit(const uint8_t made[PERMIT], int which)
+{
+    uint8_t typed[PERMIT];
+    for (size_t at = 0; at < PERMIT; at++) {
+        memcpy(typed, made, PERMIT);
+        typed[at] = other_case(made[at]);
+        ABOUT("permit %d, character %zu in the other case", which, at);
+        compare_typed(made, typed);
+        for (size_t i = 0; i < COUNT(beside_letters); i++) {
+            typed[at] = beside_letters[i];
+            ABOUT("permit %d, character %zu as %02X", which, at, typed[at]);
+            expect(compare_read_permit(reg, reg_length, typed, PERMIT).number, 106);
+        }
+    }
+    for (int i = 0; i < 20; i++) {
+        memcpy(typed, made, PERMIT);
+        for (size_t at = 0; at < PERMIT; at++)
+            typed[at] = i == 0 || random_below(2) ? other_case(typed[at]) : typed[at];
+        ABOUT("permit %d, typed in way %d", which, i);
+        compare_typed(made, typed);
+    }
+}
+
+/* Permits of every answer from 17 on: made, with another CRC, of an unknown manufacturer or one in small letters, over a block that holds no HW_ID. */
+static void small_letters(void)
+{
+    uint8_t permit[PERMIT], same_permit[PERMIT];
+    for (int i = 0; i < 300; i++) {
+        reg_length = some_register(reg, 20);
+        size_t entry = random_below(reg_length / ENTRY_BYTES);
+        const uint8_t *m_key = reg + entry * ENTRY_BYTES + 2;
+        uint64_t hw_id = some_hw_id(), small = some_text("0123456789abcdef", 4) << 8 | (uint64_t)"abcdef"[random_below(6)];
+        uint32_t m_id = m_id_at(reg, entry), small_m_id = (uint32_t)some_text("abcdefghijklmnopqrstuvwxyz", 2);
+        model_user_permit_of(m_key, (i % 4 == 1 ? small : hw_id) << 24 | 0x030303, i % 4 == 2 ? small_m_id : m_id, permit);
+        if (i % 4 == 3)
+            change_hex(permit + random_below(24));
+        ABOUT("permit %d", i);
+        expect(compare_read_permit(reg, reg_length, permit, PERMIT).number, ((const uint32_t[]){0, 18, 107, 17})[i % 4]);
+        type_permit(permit, i);
+        ABOUT("HW_ID typed in way %d", i);
+        expect(lambukir_make_user_permit(reg, reg_length, hw_id, m_id, permit, PERMIT), 0);
+        expect(lambukir_make_user_permit(reg, reg_length, typed_hw_id(hw_id), m_id, same_permit, PERMIT), 0);
+        same((uint64_t)memcmp(permit, same_permit, PERMIT), 0, "%s: the same permit is made", about);
+        expect(compare_make(reg, reg_length, hw_id, small_m_id, PERMIT), 107);
+        reg[random_below(reg_length)] = (uint8_t)"abcdef"[random_below(6)];
+        ABOUT("register %d with a small letter", i);
+        expect(compare_make(reg, reg_length, hw_id, m_id, PERMIT), 109);
+        expect(compare_read_permit(reg, reg_length, permit, PERMIT).number, 109);
+    }
+}
+
+/* Each byte of a given HW_ID as each other: taken exactly where it is hex in either case. */
+static void hw_ids(void)
+{
+    reg_length = some_register(reg, 2);
+    uint32_t m_id = some_m_id();
+    for (uint64_t i = 0; i < 5 * 256; i++) {
+        uint64_t shift = i / 256 * 8, hw_id = (typed_hw_id(some_hw_id()) & ~((uint64_t)0xFF << shift)) | i % 256 << shift;
+        ABOUT("HW_ID %010" PRIX64, hw_id);
+        expect(compare_make(reg, reg_length, hw_id, m_id, PERMIT), isxdigit((int)(i % 256)) ? 0 : 18);
+        expect(compare_make(reg, reg_length, hw_id | (uint64_t)1 << (40 + i % 24), m_id, PERMIT), 18);
+    }
+}
+
 int main(int argc, char **argv)
 {
     static const subject subjects[] = {
@@ -270,6 +348,8 @@ int main(int argc, char **argv)
         {"permits-lengths", lengths},
         {"permits-orders", orders},
         {"permits-m-ids", m_ids},
+        {"permits-small-letters", small_letters},
+        {"permits-hw-ids", hw_ids},
         {"permits-huge", huge},
     };
     seed_random();

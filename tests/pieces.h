@@ -35,11 +35,14 @@ static inline void put_line(pieces *f, const void *line, size_t length, uint32_t
     f->numbers[f->lines++] = number;
 }
 
+/* A good line, its cipher parts typed in either case. */
 static inline void put_record(pieces *f, uint64_t hw_id, uint32_t expiry)
 {
     uint8_t line[LONGEST_LINE + 40];
     record r = some_record(expiry);
-    put_line(f, line, line_of(&r, hw_id, line), RECORD);
+    size_t length = line_of(&r, hw_id, line);
+    type_hex(line + CIPHER_PARTS, CELL_PERMIT - CIPHER_PARTS);
+    put_line(f, line, length, RECORD);
 }
 
 /* A line that is refused with 12, 13 or 21. */
@@ -49,8 +52,9 @@ static inline void put_refused(pieces *f, uint64_t hw_id, uint32_t expiry, uint3
     record r = some_record(expiry);
     uint64_t one = r.key_one << 24 | 0x030303, two = r.key_two << 24 | 0x030303;
     size_t length = line_over(&r, hw_id, number == 21 ? one ^ 1 : one, two, line);
+    type_hex(line + CIPHER_PARTS, CELL_PERMIT - CIPHER_PARTS);
     if (number == 13)
-        change_hex(line + 16 + random_below(48)); /* of the keys or of the check part */
+        change_hex(line + CIPHER_PARTS + random_below(48)); /* of the keys or of the check part */
     if (number == 12)
         length = spoil_shape(line, length);
     put_line(f, line, length, number);

@@ -1,5 +1,6 @@
 /* Values from text and back, against the alphabets written out and the C library's calendar; and the words for each number, against the header's. */
 #define _DEFAULT_SOURCE
+#include <ctype.h>
 #include <time.h>
 
 #include "compare.h"
@@ -11,9 +12,10 @@
 #define NAME "0123456789ABCDEFGHIJKLMNOPQRSTUVWXYZ"
 #define LONGEST 24 /* of the texts that are tried */
 
-/* One form of value: so many characters of an alphabet, which are the bytes of a number (base 256) or its digits. */
+/* One form of value: so many characters of an alphabet, which are the bytes of a number (base 256) or its digits. Those of `small` are taken too, as the
+   letters that they are raised to. */
 typedef struct {
-    const char *what, *alphabet;
+    const char *what, *alphabet, *small;
     size_t length;
     uint64_t base, none;
     uint64_t (*from)(const char *, size_t);
@@ -40,11 +42,11 @@ static lambukir_text date_to(uint64_t date)
     return lambukir_date_to_text((uint32_t)date);
 }
 
-static const form name = {"name", NAME, 8, 256, LAMBUKIR_NO_NAME, lambukir_name_from_text, lambukir_name_to_text};
-static const form hw_id = {"HW_ID", HEX, 5, 256, LAMBUKIR_NO_HW_ID, lambukir_hw_id_from_text, lambukir_hw_id_to_text};
-static const form code = {"code", NAME, 2, 256, LAMBUKIR_NO_CODE, code_from, code_to};
-static const form key = {"key", HEX, 10, 16, LAMBUKIR_NO_KEY, lambukir_key_from_hex, lambukir_key_to_hex};
-static const form date = {"date", "0123456789", 8, 10, LAMBUKIR_NO_DATE, date_from, date_to};
+static const form name = {"name", NAME, "", 8, 256, LAMBUKIR_NO_NAME, lambukir_name_from_text, lambukir_name_to_text};
+static const form hw_id = {"HW_ID", HEX, "abcdef", 5, 256, LAMBUKIR_NO_HW_ID, lambukir_hw_id_from_text, lambukir_hw_id_to_text};
+static const form code = {"code", NAME, "", 2, 256, LAMBUKIR_NO_CODE, code_from, code_to};
+static const form key = {"key", HEX, "", 10, 16, LAMBUKIR_NO_KEY, lambukir_key_from_hex, lambukir_key_to_hex};
+static const form date = {"date", "0123456789", "", 8, 10, LAMBUKIR_NO_DATE, date_from, date_to};
 
 /* Whether the C library's calendar gives a day back as it is. */
 static int is_day(uint64_t number)
@@ -59,15 +61,16 @@ static uint64_t plain_from(const form *f, const uint8_t *text, size_t length)
 {
     uint64_t value = 0;
     for (size_t i = 0; i < length; i++) {
-        const char *at = memchr(f->alphabet, text[i], strlen(f->alphabet));
+        int raised = memchr(f->small, text[i], strlen(f->small)) ? toupper(text[i]) : text[i];
+        const char *at = memchr(f->alphabet, raised, strlen(f->alphabet));
         if (length != f->length || !at)
             return f->none;
-        value = value * f->base + (f->base == 256 ? text[i] : (uint64_t)(at - f->alphabet));
+        value = value * f->base + (f->base == 256 ? (uint64_t)raised : (uint64_t)(at - f->alphabet));
     }
     return length == f->length && (f != &date || is_day(value)) ? value : f->none;
 }
 
-/* The characters of a value, last to first, if the form takes them. */
+/* The characters of a value, last to first and small letters raised, if the form takes them. */
 static void plain_to(const form *f, uint64_t value, char out[LAMBUKIR_TEXT_SIZE])
 {
     uint8_t text[LONGEST];
@@ -75,8 +78,10 @@ static void plain_to(const form *f, uint64_t value, char out[LAMBUKIR_TEXT_SIZE]
     for (size_t i = f->length; i-- > 0; rest /= f->base)
         text[i] = f->base == 256 ? (uint8_t)rest : (uint8_t)f->alphabet[rest % f->base];
     memset(out, 0, LAMBUKIR_TEXT_SIZE);
-    if (rest == 0 && value != f->none && plain_from(f, text, f->length) == value)
-        memcpy(out, text, f->length);
+    if (rest != 0 || value == f->none || plain_from(f, text, f->length) == f->none)
+        return;
+    for (size_t i = 0; i < f->length; i++)
+        out[i] = (char)toupper(text[i]);
 }
 
 static void compare_from(const form *f, const uint8_t *text, size_t length)
@@ -142,10 +147,26 @@ static void names(void)
     same(lambukir_name_from_text("NO4D0613", 8), 0x4E4F344430363133, "the name of the header");
 }
 
+/* Each HW_ID in every mixture of cases: one value, and one text back, in capitals. */
 static void hw_ids(void)
 {
     compare_form(&hw_id);
     same(lambukir_hw_id_from_text("12348", 5), 0x3132333438, "the HW_ID of the header");
+    for (int i = 0; i < 1000; i++) {
+        uint8_t made[5], typed[5];
+        good_text(&hw_id, made, 5);
+        uint64_t value = lambukir_hw_id_from_text((const char *)made, 5), small = 0;
+        for (unsigned cases = 0; cases < 32; cases++, small = 0) {
+            for (unsigned at = 0; at < 5; at++) {
+                typed[at] = (uint8_t)(cases >> at & 1 ? tolower(made[at]) : made[at]);
+                small = small << 8 | typed[at];
+            }
+            same(lambukir_hw_id_from_text((const char *)typed, 5), value, "the HW_ID %.5s", (const char *)typed);
+            compare_from(&hw_id, typed, 5);
+            compare_to(&hw_id, small);
+            same((uint64_t)memcmp(lambukir_hw_id_to_text(small).text, made, 5), 0, "the text of the HW_ID %.5s", (const char *)typed);
+        }
+    }
 }
 
 /* Every text of two bytes, too. */
@@ -164,6 +185,7 @@ static void keys(void)
     compare_form(&key);
     same(lambukir_key_from_hex("C1CB518E9C", 10), 0xC1CB518E9C, "the key of the header");
     same(lambukir_key_from_hex("C1CB518E9", 9), LAMBUKIR_NO_KEY, "no key");
+    same(lambukir_key_from_hex("c1cb518e9c", 10), LAMBUKIR_NO_KEY, "no key in small letters");
 }
 
 /* Every day of the years, and numbers like them that are none. */

@@ -2,6 +2,7 @@
 #ifndef VALUES_H
 #define VALUES_H
 
+#include <ctype.h>
 #include <stdint.h>
 #include <stdio.h>
 #include <string.h>
@@ -12,9 +13,11 @@
 #define HEX "0123456789ABCDEF"
 #define NAMES "0123456789ABCDEFGHIJKLMNOPQRSTUVWXYZ"
 #define NO_NAMES "/:@[`az ,\r\n\x7F\xFF" /* bytes beside the alphabet; the NUL at the end is one too */
-#define NO_HEX "/:@G`afZ ,\r\n\x7F\xFF"
+#define NO_HEX "/:@G`gZz ,\r\n\x7F\xFF" /* beside hex in either case */
+#define NO_UPPER_HEX NO_HEX "af"
 #define ENTRY_BYTES 7
 #define CELL_PERMIT 64
+#define CIPHER_PARTS 16 /* where its three cipher parts begin */
 #define LONGEST_LINE 160
 #define LONGEST_COMMENT 86
 #define COUNT(array) (sizeof(array) / sizeof *(array))
@@ -37,17 +40,48 @@ static inline uint64_t some_text(const char *alphabet, size_t length)
     return value;
 }
 
-/* Another hex character. */
+/* Another hex character, and not the same letter in the other case. */
 static inline void change_hex(uint8_t *c)
 {
-    uint8_t was = *c;
-    while (*c == was)
+    uint8_t was = (uint8_t)toupper(*c);
+    while (toupper(*c) == was)
         *c = (uint8_t)HEX[random_below(16)];
+}
+
+/* A hex letter in the other case; any other byte as it is. */
+static inline uint8_t other_case(uint8_t c)
+{
+    return (c >= 'A' && c <= 'F') || (c >= 'a' && c <= 'f') ? c ^ 0x20 : c;
+}
+
+/* The bytes next to the letters of hex, in both cases. */
+static const uint8_t beside_letters[] = {0x40, 0x47, 0x60, 0x67};
+
+/* The hex letters of a text as a crew may type them: as they are, each in the other case, or mixed. */
+static inline void type_hex(uint8_t *text, size_t length)
+{
+    uint64_t kind = random_below(3);
+    for (size_t i = 0; i < length; i++)
+        if (kind == 1 || (kind == 2 && random_below(2)))
+            text[i] = other_case(text[i]);
 }
 
 static inline uint64_t some_hw_id(void)
 {
     return some_text(HEX, 5);
+}
+
+/* The same HW_ID, its letters as they may be typed. */
+static inline uint64_t typed_hw_id(uint64_t hw_id)
+{
+    uint8_t text[5];
+    uint64_t typed = 0;
+    for (int i = 0; i < 5; i++)
+        text[i] = (uint8_t)(hw_id >> 8 * (4 - i));
+    type_hex(text, 5);
+    for (int i = 0; i < 5; i++)
+        typed = typed << 8 | text[i];
+    return typed;
 }
 
 /* An M_ID or a Data Server ID. */
@@ -82,7 +116,7 @@ static inline uint64_t spoilt(uint64_t good, size_t length, const char *beside, 
 
 static inline uint64_t no_hw_id(void)
 {
-    return spoilt(some_hw_id(), 5, NO_HEX, 64);
+    return spoilt(typed_hw_id(some_hw_id()), 5, NO_HEX, 64);
 }
 
 static inline uint64_t no_name(void)
@@ -212,7 +246,7 @@ static inline size_t spoil_shape(uint8_t *line, size_t length)
     case 1: memset(line + length, 'x', LONGEST_LINE + 40 - length); return LONGEST_LINE + 1 + random_below(40);
     case 2: line[random_below(8)] = (uint8_t)NO_NAMES[random_below(sizeof NO_NAMES)]; return length;
     case 3: snprintf(digits, sizeof digits, "%08" PRIu32, no_date(0)); memcpy(line + 8, digits, 8); return length;
-    case 4: line[16 + random_below(48)] = (uint8_t)NO_HEX[random_below(sizeof NO_HEX)]; return length;
+    case 4: line[CIPHER_PARTS + random_below(48)] = (uint8_t)NO_HEX[random_below(sizeof NO_HEX)]; return length;
     case 5: line[CELL_PERMIT + 2 * random_below(2)] = (uint8_t)PICK(".;0 "); return length;
     case 6: line[CELL_PERMIT + 1] = (uint8_t)PICK("2/9A "); return length;
     case 7: line[CELL_PERMIT + 3] = '0'; return length;

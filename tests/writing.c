@@ -26,7 +26,7 @@ static void worked(void)
     same((uint64_t)memcmp(out, line, sizeof line - 1), 0, "%s: the line", about);
 }
 
-/* What was written reads back as it was given. */
+/* What was written reads back as it was given, whatever the case of the HW_ID's letters; and it is all in capitals. */
 static void good(void)
 {
     uint8_t out[LONGEST_OUT];
@@ -34,12 +34,14 @@ static void good(void)
         uint64_t hw_id = some_hw_id();
         given_line g = some_given();
         ABOUT("good line %d", i);
-        lambukir_written written = compare_write(hw_id, &g, ENOUGH + random_below(50), out);
+        lambukir_written written = compare_write(typed_hw_id(hw_id), &g, ENOUGH + random_below(50), out);
         expect(written.number, 0);
         if (written.number != 0)
             continue;
         same(written.length, g.edition < 10 ? 74 : g.edition < 100 ? 75 : 76, "%s: length", about);
         same((uint64_t)memcmp(out + written.length - 2, "\r\n", 2), 0, "%s: CR LF", about);
+        for (size_t at = 0; at < written.length; at++)
+            same((uint64_t)(islower(out[at]) != 0), 0, "%s: character %zu is a small letter", about, at);
         lambukir_line read = compare_read_line(hw_id, g.expiry, 1, out, written.length - 2);
         expect(read.number, 20); /* on the expiry itself */
         same(read.name, g.name, "%s: name", about);
