@@ -113,7 +113,9 @@ int main(void)
     make_samples();
     measure("make user permit", our_make, their_make, "plain C", 20);
     measure("read user permit", our_read, their_read, "plain C", 20);
+    measure("  in small letters", our_small_permit, their_small_permit, "plain C", 20);
     measure("read line", our_line, their_line, "plain C", 20);
+    measure("  in small letters", our_small_line, their_small_line, "plain C", 20);
     measure("refuse a line", our_wrong_line, their_wrong_line, "plain C", 2000);
     measure("write line", our_write, their_write, "plain C", 20);
     measure("read file line", our_file_line, their_file_line, "plain C", 20);
@@ -135,9 +137,11 @@ int main(void)
     measure("list, shuffled", our_shuffled, their_shuffled, "plain C", 1);
     measure("list of 10 rows", our_few, their_few, "plain C", 200);
     measure_slow();
-    put_look_through(65000);
+    put_look_through(65000, false);
     measure("look-through 65000", our_look_through, their_look_through, "plain C", 1);
-    put_look_through(0);
+    put_look_through(65000, true);
+    measure("  in small letters", our_look_through, their_look_through, "plain C", 1);
+    put_look_through(0, false);
     measure("look-through start", our_look_through, their_look_through, "plain C", 1);
     printf("sum of the answers %016llX\n", (unsigned long long)sum);
     return 0;
