@@ -45,7 +45,8 @@
    as good a name as any, and is entered and issued without a word. The checked
    way is lambukir_name_from_text, and its like for the others (see "Text").
 
-     HW_ID, M_KEY     five of 0-9 A-F
+     HW_ID            five of 0-9 A-F, a to f for A to F
+     M_KEY            five of 0-9 A-F
      M_ID, server     two of A-Z 0-9; server is a Data Server ID
      cell name        eight of A-Z 0-9
      level            0 subscription, 1 single purchase
@@ -56,6 +57,16 @@
 
    A date is the number YYYYMMDD: 20240229. It is a day of the calendar of the
    years 1900 to 2999, or it is no date.
+
+   Small letters
+
+   Crews type them, so a to f are taken for A to F in three places: in a user
+   permit, in a HW_ID that is given, and in the three cipher parts of a cell
+   permit, its characters 17 to 64. Whatever the case of a letter there, every
+   answer is the same. Everywhere else a small letter is refused as any other
+   wrong character: in cell names, M_IDs, Data Server IDs, registers and cell
+   keys in hex. A comment stays as it was typed. What is written is in capitals,
+   and so is a HW_ID that a call answers.
 
    An example
 
@@ -115,9 +126,9 @@
 /* The version of this header: as text, and as a number, 10000 for the first of
    its three, 100 for the second and 1 for the third. While the first is 0, a
    new second number may change the interface, and the shared library's name
-   changes with it (liblambukir.so.0.6). */
-#define LAMBUKIR_VERSION "0.6.1"
-#define LAMBUKIR_VERSION_NUMBER 601
+   changes with it (liblambukir.so.0.7). */
+#define LAMBUKIR_VERSION "0.7.0"
+#define LAMBUKIR_VERSION_NUMBER 700
 
 /* The numbers that come back
 
@@ -142,7 +153,7 @@
 #define LAMBUKIR_OUT_OF_RANGE 103     /* a value is not of its form or range */
 #define LAMBUKIR_NOT_HELD 104         /* the tenant does not hold that cell */
 #define LAMBUKIR_QUOTA_USED 105       /* the quota is used */
-#define LAMBUKIR_NO_USER_PERMIT 106   /* the user permit is not 28 of 0-9 A-F */
+#define LAMBUKIR_NO_USER_PERMIT 106   /* the user permit is not 28 of 0-9 A-F a-f */
 #define LAMBUKIR_UNKNOWN_M_ID 107     /* the M_ID is not in the register */
 #define LAMBUKIR_OUT_TOO_SHORT 108    /* the output is too short */
 #define LAMBUKIR_REGISTER_DAMAGED 109 /* the register is damaged */
@@ -150,8 +161,9 @@
 
 /* Of a record 0 says that its permit is current. 12 is also for a date in a line,
    row or header that is none; 18 for a HW_ID that was given, or that a user
-   permit holds; with 21 the check part is right. Each function says of which
-   values it gives 103, and for how short an output 108. */
+   permit holds, in which a small letter is wrong; with 21 the check part is
+   right. Each function says of which values it gives 103, and for how short an
+   output 108. */
 #define LAMBUKIR_CURRENT LAMBUKIR_DONE
 
 /* Sizes, in bytes where nothing else is said. */
@@ -202,7 +214,7 @@ lambukir_meaning(uint32_t number);
    every call refuses, so that a wrong text is refused even where nobody asks.
 
      name    eight of A-Z 0-9: a cell name
-     hw_id   five of 0-9 A-F
+     hw_id   five of 0-9 A-F, a to f for A to F; the value has capitals
      code    two of A-Z 0-9: an M_ID or a Data Server ID
      key     ten of 0-9 A-F: the five bytes of a cell key in hex
      date    eight digits YYYYMMDD that are a date */
@@ -228,7 +240,8 @@ uint32_t
 lambukir_date_from_text(const char *text, size_t length);
 
 /* And back: the text that gives this value, and of a number that is not of the
-   form the empty text. */
+   form the empty text. A HW_ID is written in capitals, also where its number
+   has small letters. */
 lambukir_text
 lambukir_name_to_text(uint64_t name);
 

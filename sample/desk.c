@@ -1,4 +1,5 @@
 /* The permit desk at work: a book for sixteen agents, two of them entering cells, a permit issued to a ship and read back. */
+#include <ctype.h>
 #include <inttypes.h>
 #include <stdio.h>
 #include <string.h>
@@ -96,6 +97,9 @@ int main(void)
     if (lambukir_make_user_permit(reg, 7, hw_id, lambukir_code_from_text("01", 2), permit, sizeof permit) != LAMBUKIR_DONE)
         return 1;
     printf("The ship's user permit is %.28s\n", (const char *)permit);
+    for (size_t i = 0; i < sizeof permit; i++)
+        permit[i] = (uint8_t)tolower(permit[i]); /* which is as good */
+    printf("The crew mails it in small letters: %.28s\n", (const char *)permit);
     size_t length = issue(OSLO, "NO4D0613", permit, line);
     if (length == 0)
         return 1;

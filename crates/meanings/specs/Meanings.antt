@@ -29,7 +29,7 @@ rows =
     ∷ (103, "a value is not of its form or range")
     ∷ (104, "the tenant does not hold that cell")
     ∷ (105, "the quota is used")
-    ∷ (106, "the user permit is not 28 of 0-9 A-F")
+    ∷ (106, "the user permit is not 28 of 0-9 A-F a-f")
     ∷ (107, "the M_ID is not in the register")
     ∷ (108, "the output is too short")
     ∷ (109, "the register is damaged")

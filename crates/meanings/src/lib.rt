@@ -38,7 +38,7 @@ pub fn meaning(number: u32) -> [u8; 64]
         103 => spelled(b"a value is not of its form or range"),
         104 => spelled(b"the tenant does not hold that cell"),
         105 => spelled(b"the quota is used"),
-        106 => spelled(b"the user permit is not 28 of 0-9 A-F"),
+        106 => spelled(b"the user permit is not 28 of 0-9 A-F a-f"),
         107 => spelled(b"the M_ID is not in the register"),
         108 => spelled(b"the output is too short"),
         109 => spelled(b"the register is damaged"),
