@@ -17,5 +17,5 @@ pub mod LinesAsFields
 pub mod PermitRead
 pub mod LineBack
 pub mod EitherCases
-pub mod Capitals
+pub mod WrittenCapitals
 pub mod LineNumbers

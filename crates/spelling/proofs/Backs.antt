@@ -113,7 +113,7 @@ module _ (t : List ℕ) (word : isWord isHex 5 t ≡ true) where
   hw-id-back = ap (identifierTo isUpperHex 5) (upper-stays (hwIdFrom t) hw-id-upper) ∙ upper-back .1 (raisedText t) (word-raised t ∙ word)
 
 hw-id-other : (t : List ℕ) → isWord isHex 5 t ≡ false → isHwId (hwIdFrom t) ≡ false
-unfolding identifierFrom isText
+unfolding identifierFrom isText digits allOf isHex raised isUpperHex isDigit
 hw-id-other t miss = rw (word-raised t ∙ miss)
 
 hw-id-again : (x : ℕ) → isHwId x ≡ true → hwIdFrom (hwIdTo x) ≡ raisedHwId x
