@@ -6,3 +6,4 @@ pub mod FirstCell
 pub mod Issues
 pub mod DoneCalls
 pub mod EitherCases
+pub mod IssuedCapitals

@@ -1,9 +1,10 @@
--- What the book promises of small letters: their case changes no answer of issue and check, on any book.
+-- What the book promises of small letters: their case changes no answer of issue and check, on any book, and what is issued is in capitals.
 use mathlib.Core.Path.{_≡_}
 use mathlib.Core.List.{List}
 use Prim.Native.Nat.{ℕ}
 use Rattle.text.specs.Characters.{raisedText}
 use Rattle.forms.specs.Identifiers.{raisedHwId}
+use Rattle.forms.specs.Output.{InCapitals}
 use Rattle.cell_permit.specs.EitherCase.{CaseAlone}
 use Rattle.asking.specs.Asking.{issuedFrom, checkedBy}
 
@@ -18,3 +19,8 @@ abbrev pub CheckEitherCase : Type 0
 CheckEitherCase =
     (s line other : List ℕ) (t hw k today : ℕ) → raisedHwId hw ≡ raisedHwId k → CaseAlone line other
     → checkedBy s t hw today line ≡ checkedBy s t k today other
+
+-- what is issued is in capitals
+abbrev pub IssuedInCapitals : Type 0
+IssuedInCapitals =
+    (s register permit : List ℕ) (t name expiry level room : ℕ) → InCapitals (issuedFrom s register t name expiry level permit room)
