@@ -63,9 +63,9 @@
    Crews type them, so a to f are taken for A to F in three places: in a user
    permit, in a HW_ID that is given, and in the three cipher parts of a cell
    permit, its characters 17 to 64. Whatever the case of a letter there, every
-   answer is the same. Everywhere else a small letter is refused as any other
-   wrong character: in cell names, M_IDs, Data Server IDs, registers and cell
-   keys in hex. A comment stays as it was typed. What is written is in capitals,
+   answer is the same. Nowhere else: in cell names, M_IDs, Data Server IDs,
+   registers and cell keys in hex a small letter is refused as any other wrong
+   character. A comment stays as it was typed. What is written is in capitals,
    and so is a HW_ID that a call answers.
 
    An example
