@@ -1,57 +1,43 @@
 -- An accepted user permit with one of its first 24 characters changed by more than its case is refused. Assumes nothing.
 use mathlib.Core.Path.{_≡_, refl, sym, ap, _∙_}
-use mathlib.Core.Bool.{Bool, true, false}
+use mathlib.Core.Bool.{true}
 use mathlib.Core.List.{List}
 use Prim.Native.Nat.{ℕ, _+_, _-_, _≤_, _<_}
 use native.Mathlib.Omega.{arith}
-use borrow.Author.Tests.{eqb-true, ltb-true, ltb-false}
+use borrow.Author.Tests.{ltb-true, ltb-false}
 use lib.Dec.{ltb}
 use lib.ListN.{length, drop, getD, length-map}
 use Rattle.bytes.specs.Numbers.{Below}
 use Rattle.bytes.proofs.Digits.{take-below, drop-below}
 use Rattle.bytes.proofs.Every.{either}
 use Rattle.text.specs.Characters.{raised, raisedText, isHex, hexNumber}
-use Rattle.text.specs.Texts.{part, allAt}
+use Rattle.text.specs.Texts.{part}
 use Rattle.text.proofs.Raising.{part-raised, raised-below, same-letters}
 use Rattle.text.proofs.TextsAt.{all-there}
 use Rattle.crc32.specs.Crc32.{crc32Of}
 use Rattle.crc32.specs.OneChange.{DifferAt}
 use Rattle.crc32.proofs.OneChange.{one-change}
-use Rattle.forms.specs.Order.{demand}
 use Rattle.forms.proofs.OnePlace.{part-before, part-after, part-differs, raised-differ}
-use Rattle.user_permit.specs.Register.{isRegister}
-use Rattle.user_permit.specs.UserPermit.{isPermitText, isCrcRight, permitSays, readPermit}
+use Rattle.user_permit.specs.UserPermit.{readPermit}
+use Rattle.user_permit.specs.Answers.{shipHwId, shipMId}
 use Rattle.user_permit.specs.OneCharacter.{isShip, UserPermitGuarded}
 use Rattle.user_permit.specs.declared.UserPermit.{UserPermit}
-use Rattle.user_permit.specs.declared.UserPermit.the-variants.{Refused}
-use Rattle.user_permit.proofs.UserPermits.{text-size, text-hex, second-hex}
+use Rattle.user_permit.specs.declared.UserPermit.the-variants.{Ship, Refused}
+use Rattle.user_permit.proofs.ShipRead.{Accepted, accepted}
+use Rattle.user_permit.proofs.UserPermits.{second-hex}
 
--- what was demanded of a ship holds, and what follows is that ship
-demanded : (test : Bool) (n : ℕ) (next : UserPermit) → isShip (demand test (Refused n) next) ≡ true → (test ≡ true) × (isShip next ≡ true)
-demanded true n next e = (refl, e)
-demanded false n next e = (e, cc)
+-- a permit that is accepted is read as a ship
+is-ship : (answer : UserPermit) → isShip answer ≡ true → answer ≡ Ship (shipHwId answer) (shipMId answer)
+is-ship (Ship hw m) is = refl
+is-ship (Refused n) is = cc
 
--- what is known of an accepted permit
-record Accepted (s : List ℕ) : Type 0 where
-  size : length s ≡ 28
-  hex-text : allAt isHex 28 s 0 ≡ true
-  crc : hexNumber (part 8 s 16) ≡ crc32Of (raisedText (part 16 s 0))
-
-accepted : (register s : List ℕ) → isShip (readPermit register s) ≡ true → Accepted s
-unfolding readPermit permitSays isCrcRight
-accepted register s ship =
-    let checked = demanded (isPermitText s) 106 _ (demanded (isRegister register) 109 _ ship .1) in
-    let crc = demanded (isCrcRight s) 17 _ (checked .1) .0 in
-    record {
-      size = text-size s (checked .0);
-      hex-text = text-hex s (checked .0);
-      crc = eqb-true (hexNumber (part 8 s 16)) (crc32Of (raisedText (part 16 s 0))) crc;
-    }
+of-ship : (register s : List ℕ) → isShip (readPermit register s) ≡ true → Accepted register s (shipHwId (readPermit register s)) (shipMId (readPermit register s))
+of-ship register s is = accepted register s (shipHwId (readPermit register s)) (shipMId (readPermit register s)) (is-ship (readPermit register s) is)
 
 part-below : (n : ℕ) (s : List ℕ) (at : ℕ) → Below 256 s → Below 256 (part n s at)
 part-below n s at below = take-below n (drop at s) (drop-below at s below)
 
-module _ (s t : List ℕ) (i : ℕ) (change : DifferAt i s t) (more : raised (getD s i 0) ≡ raised (getD t i 0) → ⊥) (a : Accepted s) (b : Accepted t) where
+module _ {register : List ℕ} {hw m hw₂ m₂ : ℕ} (s t : List ℕ) (i : ℕ) (change : DifferAt i s t) (more : raised (getD s i 0) ≡ raised (getD t i 0) → ⊥) (a : Accepted register s hw m) (b : Accepted register t hw₂ m₂) where
   -- the change is still there with letters raised, in the part that it is in
   differs : (n at : ℕ) → at + n ≤ length s → at ≤ i → i < at + n → DifferAt (i - at) (raisedText (part n s at)) (raisedText (part n t at))
   differs n at within low high =
@@ -88,5 +74,5 @@ module _ (s t : List ℕ) (i : ℕ) (change : DifferAt i s t) (more : raised (ge
 pub user-permit-guarded : UserPermitGuarded
 user-permit-guarded register s t i below-s below-t early change more ship =
     either (isShip (readPermit register t))
-    (λ other. absurd (changed s t i change more (accepted register s ship) (accepted register t other) below-s below-t early))
+    (λ other. absurd (changed s t i change more (of-ship register s ship) (of-ship register t other) below-s below-t early))
     (λ refused. refused)
