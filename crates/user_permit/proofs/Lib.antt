@@ -4,3 +4,5 @@ pub mod PermitsBack
 pub mod ShipRead
 pub mod ChangedPermits
 pub mod EitherCases
+pub mod AcceptedPermits
+pub mod OneShips

@@ -31,7 +31,7 @@ crc-fits : (s : List ℕ) → crc32Of s < 16 ^ 8
 unfolding crc32Of
 crc-fits s = omega arith
 
-maker-words-fit : (key : ℕ) → Below (2 ^ 32) (makerWords key)
+pub maker-words-fit : (key : ℕ) → Below (2 ^ 32) (makerWords key)
 maker-words-fit key = keys-have-words (bytesOf 5 key) (digits-below 256 5 key (omega arith))
 
 module _ (key hw m : ℕ) where

@@ -4,4 +4,5 @@ pub mod Answers
 pub mod ReadBack
 pub mod OneCharacter
 pub mod EitherCase
+pub mod OneShip
 pub mod Laws
