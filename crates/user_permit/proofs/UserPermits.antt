@@ -1,7 +1,7 @@
 -- The parts of a user permit, and what each step of making and reading one answers.
 -- Assumes nothing.
 use mathlib.Core.Path.{_≡_, refl, sym, ap, ap₂, _∙_}
-use mathlib.Core.Bool.{true, false}
+use mathlib.Core.Bool.{Bool, true, false, _&&_}
 use mathlib.Core.List.{List, [], _++_, append-assoc, append-nil}
 use Prim.Native.Nat.{ℕ, _+_, _≤_, _<_}
 use native.Mathlib.Omega.{arith}
@@ -26,6 +26,7 @@ use Rattle.crc32.specs.Crc32.{crc32Of}
 use Rattle.blowfish.specs.Cipher.{encipherOf, decipherOf}
 use Rattle.blowfish.specs.Schedule.{schedule, scheduled}
 use Rattle.blowfish.proofs.Keys.{taken}
+use Rattle.forms.specs.Order.{demand}
 use Rattle.forms.specs.Identifiers.{isHwId, isUpperHwId, raisedHwId}
 use Rattle.forms.specs.Output.{text, refusal}
 use Rattle.user_permit.specs.Register.{isRegister, keyOf}
@@ -41,19 +42,19 @@ maker-words key bytes before words e done =
     done ∙ sym (taken bytes before (omega arith) (omega arith) .1) ∙ ap schedule e
 
 pub no-hw-id : (x : Reading) (hw m : ℕ) → x ≡ Number hw → isUpperHwId hw ≡ false → shipOf x m ≡ Refused 18
-no-hw-id x hw m e wrong = rw (e, wrong)
+no-hw-id x hw m e wrong = ap (λ (y : Reading). shipOf y m) e ∙ ap (λ (b : Bool). demand b (Refused 18) (Ship hw m)) wrong
 
 pub a-ship : (x : Reading) (hw m : ℕ) → x ≡ Number hw → isUpperHwId hw ≡ true → shipOf x m ≡ Ship hw m
 a-ship x hw m e right = rw (e, right)
+
+crc-length : (s : List ℕ) → length (crcPart s) ≡ 8
+unfolding crcPart
+crc-length s = text-length hex 8 (crc32Of s)
 
 module _ (key hw m : ℕ) where
   pub hw-id-length : length (hwIdPart key hw) ≡ 16
   unfolding hwIdPart
   hw-id-length = text-length hex 16 (encipherOf (makerWords key) (padOf 5 (raisedHwId hw)))
-
-  crc-length : length (crcPart (hwIdPart key hw)) ≡ 8
-  unfolding crcPart
-  crc-length = text-length hex 8 (crc32Of (hwIdPart key hw))
 
   m-id-length : length (mIdPart m) ≡ 4
   unfolding mIdPart
@@ -61,15 +62,15 @@ module _ (key hw m : ℕ) where
 
   pub permit-length : length (userPermit key hw m) ≡ 28
   unfolding userPermit
-  permit-length = simp length-append (omega (arith, hw-id-length, crc-length, m-id-length))
+  permit-length = simp (length-append, crc-length) (omega (arith, hw-id-length, m-id-length))
 
   pub first-part : part 16 (userPermit key hw m) 0 ≡ hwIdPart key hw
   unfolding userPermit
-  first-part = part-front 16 0 [] (hwIdPart key hw) (crcPart (hwIdPart key hw) ++ mIdPart m) refl hw-id-length
+  first-part = part-front 16 0 [] (hwIdPart key hw) _ refl hw-id-length
 
   pub second-part : part 8 (userPermit key hw m) 16 ≡ crcPart (hwIdPart key hw)
   unfolding userPermit
-  second-part = part-front 8 16 (hwIdPart key hw) (crcPart (hwIdPart key hw)) (mIdPart m) hw-id-length crc-length
+  second-part = part-front 8 16 (hwIdPart key hw) (crcPart (hwIdPart key hw)) (mIdPart m) hw-id-length (crc-length (hwIdPart key hw))
 
   pub third-part : part 4 (userPermit key hw m) 24 ≡ mIdPart m
   unfolding userPermit
@@ -78,7 +79,7 @@ module _ (key hw m : ℕ) where
       (sym (append-assoc (hwIdPart key hw) (crcPart (hwIdPart key hw)) (mIdPart m))
       ∙ ap (λ (l : List ℕ). (hwIdPart key hw ++ crcPart (hwIdPart key hw)) ++ l) (sym (append-nil (mIdPart m))))
       ∙ part-front 4 24 (hwIdPart key hw ++ crcPart (hwIdPart key hw)) (mIdPart m) []
-      (simp length-append (omega (arith, hw-id-length, crc-length)))
+      (simp (length-append, crc-length) (omega (arith, hw-id-length)))
       m-id-length
 
   pub hw-id-written : allOf isUpperHex (hwIdPart key hw) ≡ true
@@ -104,7 +105,7 @@ module _ (key hw m : ℕ) where
       let a = hwIdPart key hw in
       let b = crcPart a in
       let l₁ : length a ≡ 16 = hw-id-length in
-      let l₂ : length b ≡ 8 = crc-length in
+      let l₂ : length b ≡ 8 = crc-length a in
       let l₃ : length (mIdPart m) ≡ 4 = m-id-length in
       let l₁₂ : length (a ++ b) ≡ 24 = simp length-append (omega arith) in
       let p₁ : first ≡ placed 0 a before = put₁ ∙ ap (λ (x : ℕ). placed 0 (hexText 16 x) before) is in
@@ -123,7 +124,7 @@ module _ (key hw m : ℕ) where
 module _ (permit : List ℕ) where
   pub not-28 : (length permit ≡ 28 → ⊥) → isPermitText permit ≡ false
   unfolding isPermitText
-  not-28 h = rw (ne-eqb (length permit) 28 h)
+  not-28 h = ap (λ (b : Bool). b && allOf isHex permit) (ne-eqb (length permit) 28 h)
 
   pub permit-text : length permit ≡ 28 → allOf isHex permit ≡ true → isPermitText permit ≡ true
   unfolding isPermitText
