@@ -3,6 +3,8 @@
 #ifndef CALLS_H
 #define CALLS_H
 
+#include <ctype.h>
+
 #include "compare.h"
 #include "guard.h"
 #include "lambukir.h"
@@ -63,6 +65,16 @@ static inline uint32_t compare_make(const uint8_t *reg, size_t reg_length, uint6
     return number;
 }
 
+/* A user permit that was accepted is, with its letters raised, the one that is made for the HW_ID and M_ID that it was read to. */
+static inline void same_made_again(const uint8_t *reg, size_t reg_length, const uint8_t *permit, const lambukir_user_permit *read)
+{
+    uint8_t again[28], raised[28];
+    for (size_t i = 0; i < 28; i++)
+        raised[i] = (uint8_t)toupper(permit[i]);
+    same(lambukir_make_user_permit(reg, reg_length, read->hw_id, read->m_id, again, 28), 0, "%s: number of making it again", about);
+    same((uint64_t)memcmp(again, raised, 28), 0, "%s: the permit made again", about);
+}
+
 static inline lambukir_user_permit compare_read_permit(const uint8_t *reg, size_t reg_length, const uint8_t *permit, size_t permit_length)
 {
     lent r = lend(reg, reg_length, random_below(16)), p = lend(permit, permit_length, random_below(16));
@@ -73,6 +85,8 @@ static inline lambukir_user_permit compare_read_permit(const uint8_t *reg, size_
     same(ours.m_id, theirs.m_id, "%s: M_ID", about);
     if (is_refusal(ours.number))
         same(ours.hw_id | ours.m_id, 0, "%s: values of a refusal", about);
+    else
+        same_made_again(reg, reg_length, permit, &ours);
     same_kept(&r, "register");
     same_kept(&p, "permit");
     return ours;

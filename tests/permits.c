@@ -1,5 +1,6 @@
 /* User permits, made and read, against the model and against what the rules say of each case. */
 #define _DEFAULT_SOURCE
+#include <strings.h>
 #include <sys/mman.h>
 
 #include "calls.h"
@@ -336,6 +337,57 @@ static void hw_ids(void)
     }
 }
 
+#define SHIPS 24
+
+/* A permit whose manufacturer code is changed to another's: the other's ship where both have one key. */
+static void other_makers(const uint8_t made[PERMIT], uint64_t hw_id, size_t entry)
+{
+    char permit[PERMIT + 1];
+    for (size_t other = 0; other < reg_length / ENTRY_BYTES; other++) {
+        memcpy(permit, made, 24);
+        snprintf(permit + 24, 5, "%04" PRIX32, m_id_at(reg, other));
+        ABOUT("a permit of entry %zu, as one of entry %zu", entry, other);
+        lambukir_user_permit read = compare_read_permit(reg, reg_length, (uint8_t *)permit, PERMIT);
+        if (other == entry || entry + other == 1) {
+            expect(read.number, 0);
+            same(read.hw_id, hw_id, "%s: HW_ID", about);
+            same(read.m_id, m_id_at(reg, other), "%s: M_ID", about);
+        }
+    }
+}
+
+/* Permits are the same exactly where M_IDs and HW_IDs are, letters raised, and are read to the same exactly where they are the same, letters raised.
+   The first two manufacturers have one key. */
+static void one_ship(void)
+{
+    static const char *const hw_ids[] = {"12348", "12340", "1234A", "1234a", "ABCDE", "abcde", "AbCdE", "ABCDF", "0000F", "F0000", "f0000"};
+    for (int round = 0; round < 60; round++) {
+        const char *ship[SHIPS];
+        size_t entry[SHIPS];
+        uint8_t made[SHIPS][PERMIT], typed[SHIPS][PERMIT];
+        lambukir_user_permit read[SHIPS];
+        reg_length = some_register(reg, 3);
+        memcpy(reg + ENTRY_BYTES + 2, reg + 2, 5);
+        for (int i = 0; i < SHIPS; i++) {
+            ship[i] = PICK(hw_ids);
+            entry[i] = random_below(3);
+            ABOUT("round %d, ship %d", round, i);
+            expect(lambukir_make_user_permit(reg, reg_length, number_from(ship[i]), m_id_at(reg, entry[i]), made[i], PERMIT), 0);
+            memcpy(typed[i], made[i], PERMIT);
+            type_hex(typed[i], PERMIT);
+            read[i] = compare_read_permit(reg, reg_length, typed[i], PERMIT);
+            other_makers(made[i], read[i].hw_id, entry[i]);
+            for (int j = 0; j < i; j++) {
+                int one = entry[i] == entry[j] && strcasecmp(ship[i], ship[j]) == 0;
+                ABOUT("round %d, ships %d and %d", round, j, i);
+                same(memcmp(made[i], made[j], PERMIT) == 0, (uint64_t)one, "%s: one permit", about);
+                same(strncasecmp((char *)typed[i], (char *)typed[j], PERMIT) == 0, (uint64_t)one, "%s: one permit, as typed", about);
+                same(read[i].hw_id == read[j].hw_id && read[i].m_id == read[j].m_id, (uint64_t)one, "%s: read to one ship", about);
+            }
+        }
+    }
+}
+
 int main(int argc, char **argv)
 {
     static const subject subjects[] = {
@@ -350,6 +402,7 @@ int main(int argc, char **argv)
         {"permits-m-ids", m_ids},
         {"permits-small-letters", small_letters},
         {"permits-hw-ids", hw_ids},
+        {"permits-one-ship", one_ship},
         {"permits-huge", huge},
     };
     seed_random();
