@@ -127,8 +127,8 @@
    its three, 100 for the second and 1 for the third. While the first is 0, a
    new second number may change the interface, and the shared library's name
    changes with it (liblambukir.so.0.7). */
-#define LAMBUKIR_VERSION "0.7.0"
-#define LAMBUKIR_VERSION_NUMBER 700
+#define LAMBUKIR_VERSION "0.7.1"
+#define LAMBUKIR_VERSION_NUMBER 701
 
 /* The numbers that come back
 
@@ -262,7 +262,13 @@ lambukir_date_to_text(uint32_t date);
    A register (reg) says which M_KEY an M_ID has: 0 to 256 entries of seven
    bytes, the M_ID and then the M_KEY as text, strictly rising by M_ID in the
    order of the bytes (digits before letters). One that is longer than 1,792
-   bytes, is no multiple of 7, has another character or another order is 109. */
+   bytes, is no multiple of 7, has another character or another order is 109.
+
+   By one register a ship has one user permit. Two that are made are equal
+   exactly when their M_IDs are equal and their HW_IDs, letters raised. One that
+   is accepted is, with letters raised, what is made for the HW_ID and M_ID that
+   it was read to; so two that are accepted are of one ship exactly when they
+   are equal with letters raised. */
 
 /* Writes the user permit of a HW_ID to the first 28 bytes of out, and answers
    0. The bytes after them stay as they were. One key set-up.
