@@ -1,7 +1,7 @@
 -- What a done call did: the tenant's own calls afterwards give the entered cell, nothing of a withdrawn name, the new days, and else what they gave.
 -- Assumes nothing.
 use mathlib.Core.Path.{_≡_, refl, ap, _∙_}
-use mathlib.Core.Bool.{Bool, true, false}
+use mathlib.Core.Bool.{Bool, true}
 use mathlib.Core.List.{List}
 use mathlib.Core.Option.{none, some}
 use Prim.Native.Nat.{ℕ}
@@ -10,6 +10,7 @@ use borrow.Author.Tests.{le-leb}
 use Rattle.dates.specs.Notice.{isDays}
 use Rattle.forms.specs.Order.{demand}
 use Rattle.forms.specs.Identifiers.{isCellName}
+use Rattle.forms.proofs.Demands.{passed}
 use Rattle.tenants.specs.declared.Held.{Held}
 use Rattle.tenants.specs.Cells.{entered, withdrawn, cellOf}
 use Rattle.tenants.specs.Rules.{Own, Change, enters, withdraws, sets, refuses, changeNumber, isTenant, isHeld, isSome, entering, withdrawing, settingDays, asking, issuing}
@@ -32,8 +33,7 @@ use Rattle.book.proofs.Issues.{issued-line, line-checked}
 -- what is done was not refused
 not-refused : (test : Bool) (n : ℕ) (next : Change) → (n ≡ 0 → ⊥) → changeNumber (demand test (refuses n) next) ≡ 0
     → (test ≡ true) × (changeNumber next ≡ 0)
-not-refused true n next other done = (refl, done)
-not-refused false n next other done = absurd (other done)
+not-refused test n next = passed (λ (c : Change). changeNumber c ≡ 0) test (refuses n) next
 
 -- what is the tenant's own after a call on an undamaged book
 own-then : (s : List ℕ) (t : ℕ) (call : Call) → isBook s ≡ true → ownIn (bookAfter t call s) t ≡ after (changeOf t call (ownIn s t)) (ownIn s t)

@@ -1,7 +1,7 @@
 -- An accepted line with one of its permit's characters changed by more than its case, or in its name or expiry at all, is refused: the check part is the
 -- enciphered CRC-32 of the first 48 characters, letters raised, and each step from these to the check part is one-to-one. Assumes nothing.
 use mathlib.Core.Path.{_≡_, refl, sym, ap, _∙_}
-use mathlib.Core.Bool.{Bool, true, false}
+use mathlib.Core.Bool.{Bool, true, false, false≢true}
 use mathlib.Core.List.{List}
 use Prim.Native.Nat.{ℕ, _+_, _-_, _^_, _≤_, _<_}
 use native.Mathlib.Omega.{arith}
@@ -21,6 +21,7 @@ use Rattle.crc32.specs.OneChange.{DifferAt}
 use Rattle.crc32.proofs.OneChange.{one-change}
 use Rattle.forms.specs.Order.{demand}
 use Rattle.forms.proofs.DateTexts.{date-tests}
+use Rattle.forms.proofs.Demands.{demanded, passed}
 use Rattle.forms.proofs.OnePlace.{part-before, part-after, part-differs, raised-differ}
 use Rattle.cell_permit.specs.CellPermit.{shipWords, checkOf}
 use Rattle.cell_permit.specs.Line.{isLine, partsOf, keyUnder, recordOf, checked, readWith, givenNumber, readLine}
@@ -30,19 +31,13 @@ use Rattle.cell_permit.specs.declared.Line.the-variants.{Refused}
 use Rattle.cell_permit.proofs.GoodLine.{good-line}
 use Rattle.cell_permit.proofs.ShipCipher.{ship-words, same-crc}
 
-module _ (n : ℕ) where
+module _ (n : ℕ) (test : Bool) (next : Line) where
   -- what is accepted passed each test, and what fails a test is refused
-  passed : (test : Bool) (next : Line) → isAccepted (demand test (Refused n) next) ≡ true → test ≡ true
-  passed true next e = refl
-  passed false next e = e
+  not-refused : isAccepted (demand test (Refused n) next) ≡ true → (test ≡ true) × (isAccepted next ≡ true)
+  not-refused = passed (λ (l : Line). isAccepted l ≡ true) test (Refused n) next false≢true
 
-  after : (test : Bool) (next : Line) → isAccepted (demand test (Refused n) next) ≡ true → isAccepted next ≡ true
-  after true next e = e
-  after false next e = cc
-
-  refused-after : (test : Bool) (next : Line) → (test ≡ true → isAccepted next ≡ false) → isAccepted (demand test (Refused n) next) ≡ false
-  refused-after true next e = e refl
-  refused-after false next e = refl
+  refused-after : (test ≡ true → isAccepted next ≡ false) → isAccepted (demand test (Refused n) next) ≡ false
+  refused-after = demanded (λ (l : Line). isAccepted l ≡ false) test (Refused n) next refl
 
 -- the check part is 16 hex characters within the line
 module _ (s : List ℕ) (line : isLine s ≡ true) where
@@ -110,8 +105,8 @@ line-guarded hw today days i s t bs bt small d later accepted =
     (λ _. refused-after 12 (isLine t) (checked words today days t (partsOf t))
     (λ t-line. refused-after 13 (right t) (recordFor t)
     (λ t-right. absurd
-    (not-both words (ship-words hw) i s t bs bt small d later s-line t-line
-    (eqb-true _ _ (passed 13 (right s) (recordFor s) with-line))
+    (not-both words (ship-words hw) i s t bs bt small d later (with-given .0) t-line
+    (eqb-true _ _ (not-refused 13 (right s) (recordFor s) (with-given .1) .0))
     (eqb-true _ _ t-right)))))
   where
     words : List ℕ
@@ -126,11 +121,7 @@ line-guarded hw today days i s t bs bt small d later accepted =
     recordFor : List ℕ → Line
     recordFor l = recordOf today days (partsOf l) (keyUnder words (partsOf l .block1)) (keyUnder words (partsOf l .block2))
 
-    with-given : isAccepted (readWith words today days s) ≡ true
-    with-given = after g (eqb g 0) (readWith words today days s) accepted
-
-    s-line : isLine s ≡ true
-    s-line = passed 12 (isLine s) (checked words today days s (partsOf s)) with-given
-
-    with-line : isAccepted (checked words today days s (partsOf s)) ≡ true
-    with-line = after 12 (isLine s) (checked words today days s (partsOf s)) with-given
+    with-given : (isLine s ≡ true) × (isAccepted (checked words today days s (partsOf s)) ≡ true)
+    with-given =
+        not-refused 12 (isLine s) (checked words today days s (partsOf s))
+        (not-refused g (eqb g 0) (readWith words today days s) accepted .1)

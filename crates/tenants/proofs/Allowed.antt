@@ -1,13 +1,14 @@
 -- What has held where a call does something: it is refused otherwise.
 -- Assumes nothing.
-use mathlib.Core.Path.{_≡_, refl}
-use mathlib.Core.Bool.{Bool, true, false, _||_}
+use mathlib.Core.Path.{_≡_}
+use mathlib.Core.Bool.{Bool, true, _||_}
 use Prim.Native.Nat.{ℕ}
 use lib.Dec.{ltb}
 use lib.ListN.{length}
 use Rattle.dates.specs.Notice.{isDays}
 use Rattle.forms.specs.Order.{demand}
 use Rattle.forms.specs.Identifiers.{isCellName}
+use Rattle.forms.proofs.Demands.{demanded}
 use Rattle.tenants.specs.declared.Held.{Held}
 use Rattle.tenants.specs.Cells.{cellOf}
 use Rattle.tenants.specs.Rules.{Own, Change, enters, withdraws, sets, nothing, refuses, isTenant, isHeld, isSome, entering, withdrawing, settingDays}
@@ -26,27 +27,26 @@ Allowed t own nothing = Unit {0}
 Allowed t own (refuses n) = Unit {0}
 
 module _ (t : ℕ) (own : Own) where
-  demanded : (test : Bool) (n : ℕ) (next : Change) → (test ≡ true → Allowed t own next) → Allowed t own (demand test (refuses n) next)
-  demanded true n next passed = passed refl
-  demanded false n next passed = tt
+  where-it-holds : (test : Bool) (n : ℕ) (next : Change) → (test ≡ true → Allowed t own next) → Allowed t own (demand test (refuses n) next)
+  where-it-holds test n next = demanded (Allowed t own) test (refuses n) next tt
 
   -- every call does only that
   pub allowed : (call : Call) → Allowed t own (changeOf t call own)
   unfolding entering withdrawing settingDays
   allowed (enter cell) =
       let new : Change = demand (hasRoom cell own) (refuses 105) (enters cell) in
-      demanded (isTenant t) 102 (demand (isHeld cell) (refuses 103) new)
-      (λ tenant. demanded (isHeld cell) 103 new
-      (λ held. demanded (hasRoom cell own) 105 (enters cell) (λ room. (tenant, (held, room)))))
+      where-it-holds (isTenant t) 102 (demand (isHeld cell) (refuses 103) new)
+      (λ tenant. where-it-holds (isHeld cell) 103 new
+      (λ held. where-it-holds (hasRoom cell own) 105 (enters cell) (λ room. (tenant, (held, room)))))
   allowed (withdraw name) =
       let held : Bool = isSome (cellOf name (own .cells)) in
       let gone : Change = demand held (refuses 104) (withdraws name) in
-      demanded (isTenant t) 102 (demand (isCellName name) (refuses 103) gone)
-      (λ tenant. demanded (isCellName name) 103 gone
-      (λ right. demanded held 104 (withdraws name) (λ there. (tenant, (right, there)))))
+      where-it-holds (isTenant t) 102 (demand (isCellName name) (refuses 103) gone)
+      (λ tenant. where-it-holds (isCellName name) 103 gone
+      (λ right. where-it-holds held 104 (withdraws name) (λ there. (tenant, (right, there)))))
   allowed (setDays days) =
-      demanded (isTenant t) 102 (demand (isDays days) (refuses 103) (sets days))
-      (λ tenant. demanded (isDays days) 103 (sets days) (λ right. (tenant, right)))
+      where-it-holds (isTenant t) 102 (demand (isDays days) (refuses 103) (sets days))
+      (λ tenant. where-it-holds (isDays days) 103 (sets days) (λ right. (tenant, right)))
   allowed (askEdition name) = tt
   allowed (issue register name expiry level permit room) = tt
   allowed (check hw today line) = tt
