@@ -126,9 +126,9 @@
 /* The version of this header: as text, and as a number, 10000 for the first of
    its three, 100 for the second and 1 for the third. While the first is 0, a
    new second number may change the interface, and the shared library's name
-   changes with it (liblambukir.so.0.7). */
-#define LAMBUKIR_VERSION "0.7.1"
-#define LAMBUKIR_VERSION_NUMBER 701
+   changes with it (liblambukir.so.0.8). */
+#define LAMBUKIR_VERSION "0.8.0"
+#define LAMBUKIR_VERSION_NUMBER 800
 
 /* The numbers that come back
 
@@ -159,11 +159,11 @@
 #define LAMBUKIR_REGISTER_DAMAGED 109 /* the register is damaged */
 #define LAMBUKIR_CELL_TWICE 110       /* a cell has two rows in the product list */
 
-/* Of a record 0 says that its permit is current. 12 is also for a date in a line,
-   row or header that is none; 18 for a HW_ID that was given, or that a user
-   permit holds, in which a small letter is wrong; with 21 the check part is
-   right. Each function says of which values it gives 103, and for how short an
-   output 108. */
+/* Of a record 0 says that its permit is current; 15 and 20 are for subscriptions
+   alone. 12 is also for a date in a line, row or header that is none; 18 for a
+   HW_ID that was given, or that a user permit holds, in which a small letter is
+   wrong; with 21 the check part is right. Each function says of which values it
+   gives 103, and for how short an output 108. */
 #define LAMBUKIR_CURRENT LAMBUKIR_DONE
 
 /* Sizes, in bytes where nothing else is said. */
@@ -300,11 +300,19 @@ lambukir_read_user_permit(const uint8_t *reg, size_t reg_length,
    counted. No field but the edition and the comment may be empty. */
 
 /* A record: cell name, both cell keys, expiry, service level, edition (0 where
-   it is blank) and Data Server ID. Its number is the notice:
+   it is blank) and Data Server ID. Its number is the notice. Of a subscription,
+   level 0:
 
      15  today is after the expiry
      20  less than the given days are left; none, on the expiry itself
-     0   otherwise */
+     0   otherwise
+
+   Of a single purchase, level 1, it is 0 whatever its expiry: it does not run
+   out. Nothing else goes by the level: the expiry must be a date (12), and so
+   must today (14), and the days must be warning days (103).
+
+   S-63's check part is of the permit and not of the level. A level that was
+   changed on the way, from 0 to 1 or back, is read as it came. */
 typedef struct {
   uint64_t name;
   uint64_t key_one;

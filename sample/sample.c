@@ -1,4 +1,5 @@
-/* Writes the sample PERMIT.TXT to standard output: permits for the ship with HW_ID 12348, written by the library, and two lines that went bad on the way. */
+/* Writes the sample PERMIT.TXT to standard output: permits for the ship with HW_ID 12348, written by the library, and two lines that went bad on the way.
+   The last is a single purchase; the others are subscriptions. */
 #include <stdio.h>
 #include <string.h>
 
@@ -26,7 +27,7 @@ int main(void)
     bad |= put_line("DE416080", 20231231, 0, 3, 0);
     bad |= put_line("FR572410", 20241231, 0, 112, 20);
     fputs("FR57241\r\n", stdout);
-    bad |= put_line("US5NY1CM", 20250630, 1, 1, 0);
+    bad |= put_line("US5NY1CM", 20231231, 1, 1, 0);
     fputs(":ECS\r\n", stdout);
     return bad;
 }

@@ -115,7 +115,8 @@ static void compare_notices(uint32_t today, uint32_t today_number, uint32_t expi
     for (uint32_t i = 0; i <= 100 + sizeof large / sizeof *large; i++) {
         uint32_t warning = i <= 100 ? i : large[i - 101];
         uint32_t notice = passed ? 15 : days < warning ? 20 : 0;
-        same(probe_notice(today, expiry, warning), notice, "notice, %" PRIu32 " to %" PRIu32 ", %" PRIu32 " days", today, expiry, warning);
+        same(probe_notice(0, today, expiry, warning), notice, "notice, %" PRIu32 " to %" PRIu32 ", %" PRIu32 " days", today, expiry, warning);
+        same(probe_notice(1, today, expiry, warning), 0, "single purchase, %" PRIu32 " to %" PRIu32 ", %" PRIu32 " days", today, expiry, warning);
     }
 }
 

@@ -231,7 +231,7 @@ static void huge(void)
     expect(first.number, 0);
     same(first.place, HEADER_LENGTH, "%s: place of the first line", about);
     lambukir_file_line line = lambukir_read_file_line(hw_id, TODAY, 30, map, size, start);
-    expect(line.number, 20);
+    expect(line.number, line.level == 0 ? 20 : 0);
     same(line.next, start + file.length, "%s: next place", about);
     line = lambukir_read_file_line(hw_id, TODAY, 30, map, size, line.next);
     expect(line.number, 12);

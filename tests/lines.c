@@ -28,6 +28,19 @@ static void worked(void)
     expect(compare_read_line(number_from("12347"), 20000801, 30, line, sizeof line - 1).number, 13);
 }
 
+/* A record as a subscription, which gives this number, and as a single purchase, which gives 0; read by itself and as a line of a file. */
+static void compare_notice(record r, uint64_t hw_id, uint32_t today, uint32_t days, uint32_t number)
+{
+    uint8_t line[ROOM];
+    for (r.level = 0; r.level < 2; r.level++) {
+        size_t length = line_of(&r, hw_id, line);
+        memcpy(line + length, "\r\n", 2);
+        ABOUT("service level %" PRIu32 ", %" PRIu32 " to %" PRIu32 " with %" PRIu32 " days", r.level, today, r.expiry, days);
+        expect(compare_read_line(hw_id, today, days, line, length).number, r.level == 0 ? number : 0);
+        expect(compare_file_line(hw_id, today, days, line, length + 2, 0).number, r.level == 0 ? number : 0);
+    }
+}
+
 /* P1 to P5 of the rules, and each side of each limit. */
 static void notices(void)
 {
@@ -36,22 +49,16 @@ static void notices(void)
         {19000101, 29991231, 0}, {29991231, 19000101, 15}, {29991231, 29991231, 20}, {19000101, 19000101, 20},
     };
     static const uint32_t days[] = {1, 2, 29, 30, 31, 89, 90};
-    uint8_t line[ROOM];
     uint64_t hw_id = some_hw_id();
-    for (size_t i = 0; i < COUNT(rows); i++) {
-        record r = some_record(rows[i].expiry);
-        ABOUT("%" PRIu32 " to %" PRIu32, rows[i].today, rows[i].expiry);
-        expect(compare_read_line(hw_id, rows[i].today, 30, line, line_of(&r, hw_id, line)).number, rows[i].number);
-    }
+    for (size_t i = 0; i < COUNT(rows); i++)
+        compare_notice(some_record(rows[i].expiry), hw_id, rows[i].today, 30, rows[i].number);
     for (int i = 0; i < 10; i++) {
         uint32_t today = some_date();
         for (size_t d = 0; d < COUNT(days); d++)
             for (uint64_t left = days[d] - 1; left < days[d] + 2; left++) {
                 record r = some_record(days_after(today, left));
-                ABOUT("%" PRIu64 " days left of %" PRIu32 ", today %" PRIu32, left, days[d], today);
-                uint32_t number = compare_read_line(hw_id, today, days[d], line, line_of(&r, hw_id, line)).number;
                 if (r.expiry >= today) /* else it was the calendar's last day */
-                    expect(number, left < days[d] ? 20 : 0);
+                    compare_notice(r, hw_id, today, days[d], left < days[d] ? 20 : 0);
             }
     }
 }

@@ -124,8 +124,11 @@ static uint32_t day_number(uint32_t date)
     return year * 365 + past / 4 - past / 100 + past / 400 + before[month - 1] + date % 100;
 }
 
-static uint32_t notice(uint32_t today, uint32_t expiry, uint32_t days)
+/* A single purchase does not run out. */
+static uint32_t notice(uint32_t level, uint32_t today, uint32_t expiry, uint32_t days)
 {
+    if (level == LAMBUKIR_SINGLE_PURCHASE)
+        return 0;
     if (expiry < today)
         return 15;
     return day_number(expiry) - day_number(today) < days ? 20 : 0;
@@ -142,7 +145,7 @@ lambukir_line judge(const BF_KEY *hw_id6, uint32_t today, uint32_t days, const u
     if (!is_padded_five(one) || !is_padded_five(two))
         return (lambukir_line){.number = 21};
     return (lambukir_line){fields->name,  one >> 24,       two >> 24,      fields->expiry,
-                           fields->level, fields->edition, fields->server, notice(today, fields->expiry, days)};
+                           fields->level, fields->edition, fields->server, notice(fields->level, today, fields->expiry, days)};
 }
 
 lambukir_line model_read_line(uint64_t hw_id, uint32_t today, uint32_t days, const uint8_t *line, size_t line_length)

@@ -20,7 +20,7 @@ typedef struct {
 bool probe_is_date(uint32_t date);
 uint32_t probe_day_number(uint32_t date); /* 0 for a number that is no date */
 probe_days_left_t probe_days_left(uint32_t today, uint32_t expiry);
-uint32_t probe_notice(uint32_t today, uint32_t expiry, uint32_t days); /* 0 current, 15 expired, 20 soon */
+uint32_t probe_notice(uint32_t level, uint32_t today, uint32_t expiry, uint32_t days); /* 0 current, 15 expired, 20 soon */
 
 /* Characters. */
 bool probe_is_digit(uint8_t c);

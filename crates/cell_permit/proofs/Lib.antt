@@ -17,5 +17,6 @@ pub mod LinesAsFields
 pub mod PermitRead
 pub mod LineBack
 pub mod EitherCases
+pub mod ServiceLevels
 pub mod WrittenCapitals
 pub mod LineNumbers

@@ -25,7 +25,7 @@ notice-short Soon = omega arith
 notice-short Expired = omega arith
 
 record-short : (today days : ℕ) (p : Parts) (one two : Reading) → lineNumber (recordOf today days p one two) < 100
-record-short today days p (Number one) (Number two) = notice-short (noticeOf (daysLeft today (p .expiry)) days)
+record-short today days p (Number one) (Number two) = notice-short (noticeOf (p .level) (daysLeft today (p .expiry)) days)
 record-short today days p (Number one) Wrong = omega arith
 record-short today days p Wrong two = omega arith
 

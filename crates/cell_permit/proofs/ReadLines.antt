@@ -129,7 +129,7 @@ module _ (words : List ℕ) (today days : ℕ) (line : List ℕ) where
           unfolding checked
           refused-21-two wrong = rw (← check-there, eq-eqb (p .check) k right, made-one, wrong)
 
-          pub is-record : (two : ℕ) (notice : Notice) → keyUnder words (p .block2) ≡ Number two → notice ≡ noticeOf (daysLeft today (p .expiry)) days
+          pub is-record : (two : ℕ) (notice : Notice) → keyUnder words (p .block2) ≡ Number two → notice ≡ noticeOf (p .level) (daysLeft today (p .expiry)) days
               → Record (record {
                 name = p .name;
                 key1 = one;

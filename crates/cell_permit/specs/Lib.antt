@@ -5,5 +5,6 @@ pub mod Answers
 pub mod ReadBack
 pub mod OneCharacter
 pub mod EitherCase
+pub mod ServiceLevel
 pub mod LineFields
 pub mod Laws

@@ -89,7 +89,7 @@ shapeOf line = cond (isLine line) (shape.Line (partsOf line)) shape.Wrong
 unfoldable pub commentOf : List ℕ → List ℕ
 commentOf line = cond (isLine line) (drop (commentPlace line) line) []
 
--- both keys with right padding, else 21; the notice is judged for every permit
+-- both keys with right padding, else 21
 abbrev pub recordOf : ℕ → ℕ → Parts → Reading → Reading → Line
 recordOf today days p (Number one) (Number two) =
     Record (record {
@@ -100,7 +100,7 @@ recordOf today days p (Number one) (Number two) =
       level = p .level;
       edition = p .edition;
       server = p .server;
-      notice = noticeOf (daysLeft today (p .expiry)) days;
+      notice = noticeOf (p .level) (daysLeft today (p .expiry)) days;
     })
 recordOf today days p (Number one) Wrong = Refused 21
 recordOf today days p Wrong two = Refused 21

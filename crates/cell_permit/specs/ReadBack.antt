@@ -23,11 +23,11 @@ recordFor today days cell =
       level = cell .level;
       edition = cell .edition;
       server = cell .server;
-      notice = noticeOf (daysLeft today (cell .expiry)) days;
+      notice = noticeOf (cell .level) (daysLeft today (cell .expiry)) days;
     })
 
 -- every good name, expiry, keys, level, edition, Data Server ID and HW_ID: reading what writing gives, without its CR LF, answers exactly
--- those, with the notice of today and days
+-- those, with the notice of its level, today and days
 abbrev pub LineReadsBack : Type 0
 LineReadsBack =
     (hw today days room : ℕ) (cell : Cell)

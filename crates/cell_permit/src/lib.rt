@@ -310,7 +310,7 @@ fn checked(words: &[u32; 1042], today: u32, days: u32, line: &[u8], p: Parts) ->
         level: p.level,
         edition: p.edition,
         server: p.server,
-        notice: dates::notice_of(today, p.expiry, days),
+        notice: dates::notice_of(p.level, today, p.expiry, days),
     })
 }
 

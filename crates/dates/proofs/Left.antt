@@ -6,7 +6,7 @@ use native.Mathlib.Omega.{arith}
 use borrow.Author.Tests.{lt-ltb, le-ltb}
 use lib.IntN.{ℤ, pos, negsuc, _-ℤ_}
 use Rattle.dates.specs.Calendar.{dayNumber}
-use Rattle.dates.specs.Notice.{daysLeft, formOf, leftOf, daysMeant, noticeOf}
+use Rattle.dates.specs.Notice.{daysLeft, formOf, leftOf, daysMeant, subscriptionNotice}
 use Rattle.dates.specs.declared.DaysLeft.the-variants.{Passed, Left}
 use Rattle.dates.specs.declared.Notice.the-variants.{Expired}
 
@@ -19,13 +19,13 @@ pub days-of-left : (today expiry : ℕ) → daysMeant (leftOf today expiry) ≡ 
 unfolding leftOf
 days-of-left today expiry = days-of-form (daysLeft today expiry)
 
-passed-below-zero : (z : ℤ) (n days : ℕ) → formOf z ≡ Passed n → noticeOf z days ≡ Expired
-unfolding formOf noticeOf
+passed-below-zero : (z : ℤ) (n days : ℕ) → formOf z ≡ Passed n → subscriptionNotice z days ≡ Expired
+unfolding formOf subscriptionNotice
 passed-below-zero (negsuc k) n days e = refl
 passed-below-zero (pos k) n days e = let z : _≡_ {A = ℕ} 0 1 = cc in absurd (omega arith)
 
 module _ (today expiry n : ℕ) where
-  pub passed-expired : (days : ℕ) → leftOf today expiry ≡ Passed n → noticeOf (daysLeft today expiry) days ≡ Expired
+  pub passed-expired : (days : ℕ) → leftOf today expiry ≡ Passed n → subscriptionNotice (daysLeft today expiry) days ≡ Expired
   unfolding leftOf
   passed-expired = passed-below-zero (daysLeft today expiry) n
 

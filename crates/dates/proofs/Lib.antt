@@ -5,3 +5,4 @@ pub mod Parts
 pub mod Rising
 pub mod Next
 pub mod Left
+pub mod Levels

@@ -1,7 +1,7 @@
--- The days left until an expiry, and the notice that they give. Dates are numbers YYYYMMDD.
+-- The days left until an expiry, and the notice of a permit. Dates are numbers YYYYMMDD.
 use Prim.Native.Nat.{ℕ, suc}
 use mathlib.Core.Bool.{Bool, cond, _&&_}
-use lib.Dec.{leb, ltb}
+use lib.Dec.{leb, ltb, eqb}
 use lib.IntN.{ℤ, pos, negsuc, negℤ, _-ℤ_}
 use Rattle.dates.specs.Calendar.{dayNumber}
 use Rattle.dates.specs.declared.DaysLeft.{DaysLeft}
@@ -31,10 +31,14 @@ daysMeant (Left n) = pos n
 unfoldable pub isDays : ℕ → Bool
 isDays days = leb 1 days && leb days 90
 
--- days left below zero: expired; from zero to less than the warning days: soon; otherwise current
-unfoldable pub noticeOf : ℤ → ℕ → Notice
-noticeOf (negsuc n) days = Expired
-noticeOf (pos n) days = cond (ltb n days) Soon Current
+-- the notice of a subscription. Days left below zero: expired; from zero to less than the warning days: soon; otherwise current
+unfoldable pub subscriptionNotice : ℤ → ℕ → Notice
+subscriptionNotice (negsuc n) days = Expired
+subscriptionNotice (pos n) days = cond (ltb n days) Soon Current
+
+-- the notice of a permit: service level 0 is a subscription; a single purchase, 1, is current for any number of days left
+unfoldable pub noticeOf : ℕ → ℤ → ℕ → Notice
+noticeOf level left days = cond (eqb level 0) (subscriptionNotice left days) Current
 
 -- the notice's number
 abbrev pub noticeNumber : Notice → ℕ

@@ -112,10 +112,13 @@ pub fn is_days(days: u32) -> bool
     1 <= days && days <= 90
 }
 
-// Expired once the date has passed, soon while less than the warning days are left.
-pub fn notice_of(today: u32, expiry: u32, days: u32) -> Notice
-    ensures { λ r. ⌜ r ≡ noticeOf (daysLeft today expiry) days ⌝ }
+// A subscription (service level 0) is expired once the date has passed, and soon while less than the warning days are left.
+pub fn notice_of(level: u32, today: u32, expiry: u32, days: u32) -> Notice
+    ensures { λ r. ⌜ r ≡ noticeOf level (daysLeft today expiry) days ⌝ }
 {
+    if 0 < level {
+        return Notice::Current;
+    }
     match days_left(today, expiry) {
         DaysLeft::Passed(_) => Notice::Expired,
         DaysLeft::Left(n) => {

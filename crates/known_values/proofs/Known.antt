@@ -5,7 +5,7 @@ use Rattle.bytes.specs.Numbers.{digits, value}
 use Rattle.bytes.specs.Every.{allOf}
 use Rattle.text.specs.Characters.{isDigit, raised, isUpperHex, isHex, hexCharacter}
 use Rattle.dates.specs.Calendar.{year, month, day, isLeap, monthLengths, daysIn, within, isDate, multiplesBelow, daysBeforeYear, sum, daysBeforeMonth, dayNumber}
-use Rattle.dates.specs.Notice.{daysLeft, noticeOf}
+use Rattle.dates.specs.Notice.{daysLeft, subscriptionNotice, noticeOf}
 use Rattle.dates.proofs.Left.{same-day}
 use Rattle.forms.specs.Identifiers.{isText, hwId6}
 use Rattle.user_permit.specs.UserPermit.{mIdPart}
@@ -14,7 +14,7 @@ use Rattle.book.proofs.FirstCell.{first-cell}
 use Rattle.known_values.specs.Rows.{Holds, EachHolds, rows, sameDay}
 
 same-day-holds : Holds (sameDay (pos 0) 20)
-unfolding noticeOf
+unfolding noticeOf subscriptionNotice
 same-day-holds d = (same-day d, rw (same-day d))
 
 infixr 5 _and_
@@ -23,7 +23,7 @@ a and b = (a, b)
 
 -- P1 to P12, in the table's order: antt computes all but P5 and P12
 pub known : EachHolds rows
-unfolding year month day isLeap monthLengths daysIn within isDate multiplesBelow daysBeforeYear sum daysBeforeMonth dayNumber daysLeft noticeOf digits value hexCharacter isDigit raised isUpperHex isHex allOf isText hwId6 mIdPart givenNumber
+unfolding year month day isLeap monthLengths daysIn within isDate multiplesBelow daysBeforeYear sum daysBeforeMonth dayNumber daysLeft subscriptionNotice noticeOf digits value hexCharacter isDigit raised isUpperHex isHex allOf isText hwId6 mIdPart givenNumber
 known =
     (refl, refl)
     and (refl, refl)

@@ -65,9 +65,9 @@ rows =
     ∷ usedAfterEntering 125
     ∷ []
 
--- the number that comes back for an expiry, at 30 warning days
+-- the number that comes back for the expiry of a subscription, at 30 warning days
 abbrev pub numberAt30 : ℕ → ℕ → ℕ
-numberAt30 today expiry = noticeNumber (noticeOf (daysLeft today expiry) 30)
+numberAt30 today expiry = noticeNumber (noticeOf 0 (daysLeft today expiry) 30)
 
 -- the used length that a book tells
 abbrev pub usedIn : List ℕ → ℕ

@@ -69,10 +69,10 @@ pub extern "C" fn probe_days_left(today: u32, expiry: u32) -> ProbeDaysLeft
 }
 
 #[no_mangle]
-pub extern "C" fn probe_notice(today: u32, expiry: u32, days: u32) -> u32
-    ensures { λ r. ⌜ r ≡ noticeNumber (noticeOf (daysLeft today expiry) days) ⌝ }
+pub extern "C" fn probe_notice(level: u32, today: u32, expiry: u32, days: u32) -> u32
+    ensures { λ r. ⌜ r ≡ noticeNumber (noticeOf level (daysLeft today expiry) days) ⌝ }
 {
-    dates::notice_number(dates::notice_of(today, expiry, days))
+    dates::notice_number(dates::notice_of(level, today, expiry, days))
 }
 
 #[no_mangle]

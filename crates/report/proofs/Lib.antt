@@ -1,4 +1,5 @@
 pub mod Answers
+pub mod EachAnswer
 pub mod LineEnds
 pub mod Room
 pub mod Putting
@@ -7,3 +8,4 @@ pub mod OneMore
 pub mod Listing
 pub mod Reports
 pub mod EitherCases
+pub mod LevelsCounted

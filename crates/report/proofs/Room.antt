@@ -1,7 +1,7 @@
 -- Every report fits in its room: a line that is ended goes past a CR LF, and its row has 18 bytes at most.
 -- Assumes nothing.
-use mathlib.Core.Path.{_≡_, refl, ap}
-use mathlib.Core.Bool.{Bool, true, false, not}
+use mathlib.Core.Path.{_≡_, refl, sym, ap}
+use mathlib.Core.Bool.{Bool, true, false, not, false≢true}
 use mathlib.Core.List.{List, [], _∷_}
 use mathlib.Core.Logic.{_⊎_, inl, inr, ⊎-elim}
 use Prim.Native.Nat.{ℕ, zero, suc, _+_, _-_, _*_, _≤_, _<_}
@@ -26,22 +26,16 @@ use Rattle.report.specs.LookThrough.{following, answersFrom, encAnswers,
 use Rattle.report.specs.Enough.{RoomEnough}
 use Rattle.report.specs.Turns.{Few, rowEnd, tallyOf}
 use Rattle.report.proofs.Answers.{rises, enough}
+use Rattle.report.proofs.EachAnswer.{OfStep, of-step}
 use Rattle.report.proofs.LineEnds.{fewer-after, line-passed, two-bytes-each}
-
--- a step's number
-abbrev stepNumber : Step → ℕ
-stepNumber (Record r c) = lineNumber (line.Record r)
-stepNumber (Refused n c) = n
-stepNumber (End c) = 0
 
 -- a step from one place to another goes past a CR LF or to the file's end
 abbrev Past : List ℕ → ℕ → ℕ → Type 0
 Past file place next = (suc (lineEndsIn (drop next file)) ≤ lineEndsIn (drop place file)) ⊎ (next ≡ length file)
 
--- a number of two digits, and a place past a line
-record Onward (file : List ℕ) (place : ℕ) (s : Step) : Type 0 where
-  short : stepNumber s < 100
-  further : isEnd s ≡ false → Past file place (nextPlace s)
+-- a step that is not the end goes past a line
+abbrev Onward : List ℕ → ℕ → Step → Type 0
+Onward file place s = isEnd s ≡ false → Past file place (nextPlace s)
 
 -- each line that is read has a number of two digits
 abbrev pub Short : (List ℕ → Line) → Type 0
@@ -49,20 +43,20 @@ Short read = (s : List ℕ) → lineNumber (read s) < 100
 
 module _ (file : List ℕ) (place : ℕ) where
   last : Onward file place (Refused 12 (cursor (length file)))
-  last = record { short = omega arith; further = λ on. inr refl }
+  last on = inr refl
 
-  next : (a : Line) (c : Cursor) → lineNumber a < 100 → Past file place (c .place) → Onward file place (onward a c)
-  next (line.Record r) c h far = record { short = h; further = λ on. far }
-  next (line.Refused n) c h far = record { short = h; further = λ on. far }
+  next : (a : Line) (c : Cursor) → Past file place (c .place) → Onward file place (onward a c)
+  next (line.Record r) c far on = far
+  next (line.Refused n) c far on = far
 
-module _ (read : List ℕ → Line) (short : Short read) (file : List ℕ) where
+module _ (read : List ℕ → Line) (file : List ℕ) where
   goes-past : (place : ℕ) → Onward file place (stepBy read file place)
   unfolding stepBy
   goes-past place =
       demanded P (leb place (length file)) end _ (last file place)
-      (λ within. demanded P (not (endsAt file place)) (End (cursor place)) _ (record { short = omega arith; further = λ on. inr (cc) })
+      (λ within. demanded P (not (endsAt file place)) (End (cursor place)) _ (λ on. absurd (false≢true (sym on)))
       (λ on. demanded P (ltb (lineEnds file place) (length file)) end _ (last file place)
-      (λ closed. next file place (read (lineAt file place)) (cursor (lineEnds file place + 2)) (short (lineAt file place))
+      (λ closed. next file place (read (lineAt file place)) (cursor (lineEnds file place + 2))
       (inl (line-passed file place (ltb-true (lineEnds file place) (length file) closed))))))
     where
       P : Step → Type 0
@@ -87,6 +81,9 @@ row-length count a few small =
     simp (length-append, numeral-length, name-length) (omega arith)
 
 module _ (read : List ℕ → Line) (short : Short read) (file : List ℕ) where
+  two-digits : (place : ℕ) → OfStep (λ (a : Line). lineNumber a < 100) (stepBy read file place)
+  two-digits = of-step (λ (a : Line). lineNumber a < 100) read short (omega arith) file
+
   -- no row follows from the file's end
   none-after : (n next count : ℕ) → next ≡ length file → length (rowsFrom count (answersFrom read file n next)) ≡ 0
   unfolding answersFrom rowsFrom
@@ -113,12 +110,14 @@ module _ (read : List ℕ → Line) (short : Short read) (file : List ℕ) where
     unfolding rowsFrom
     rows-after (Record r c) here later =
         let on = rises read file place (Record r c) within here refl in
-        let far : Onward file place (Record r c) = rw here at (goes-past read short file place) in
-        one-more (c .place) (line.Record r) (far .short) on (far .further refl) (later (c .place) (on .0) (on .1))
+        let far : Onward file place (Record r c) = rw here at (goes-past read file place) in
+        let small : lineNumber (line.Record r) < 100 = rw here at (two-digits place) in
+        one-more (c .place) (line.Record r) small on (far refl) (later (c .place) (on .0) (on .1))
     rows-after (Refused m c) here later =
         let on = rises read file place (Refused m c) within here refl in
-        let far : Onward file place (Refused m c) = rw here at (goes-past read short file place) in
-        one-more (c .place) (line.Refused m) (far .short) on (far .further refl) (later (c .place) (on .0) (on .1))
+        let far : Onward file place (Refused m c) = rw here at (goes-past read file place) in
+        let small : m < 100 = rw here at (two-digits place) in
+        one-more (c .place) (line.Refused m) small on (far refl) (later (c .place) (on .0) (on .1))
     rows-after (End c) here later = omega arith
 
   rows-few : (n place count : ℕ) → place ≤ length file → count + (length file - place) < 100000

@@ -2,3 +2,4 @@ pub mod LookThrough
 pub mod Enough
 pub mod Turns
 pub mod EitherCase
+pub mod ServiceLevel
