@@ -8,12 +8,12 @@ use Rattle.bytes.specs.declared.numbers.Reading.{Reading}
 use Rattle.bytes.specs.declared.numbers.Reading.the-variants.{Number, Wrong}
 use Rattle.text.specs.Characters.{raisedText}
 use Rattle.text.specs.Texts.{part}
-use Rattle.dates.specs.Notice.{daysLeft, noticeOf, noticeNumber}
+use Rattle.dates.specs.Notice.{noticeNumber}
 use Rattle.dates.specs.declared.Notice.{Notice}
 use Rattle.dates.specs.declared.Notice.the-variants.{Current, Soon, Expired}
 use Rattle.forms.proofs.Demands.{demanded}
 use Rattle.cell_permit.specs.CellPermit.{checkOf}
-use Rattle.cell_permit.specs.Line.{isLine, partsOf, recordOf, keyUnder, checked, readWith, lineNumber}
+use Rattle.cell_permit.specs.Line.{isLine, partsOf, noticeFor, recordOf, keyUnder, checked, readWith, lineNumber}
 use Rattle.cell_permit.specs.Laws.{TwoDigits}
 use Rattle.cell_permit.specs.declared.Line.{Line}
 use Rattle.cell_permit.specs.declared.Line.the-variants.{Refused}
@@ -25,7 +25,7 @@ notice-short Soon = omega arith
 notice-short Expired = omega arith
 
 record-short : (today days : ℕ) (p : Parts) (one two : Reading) → lineNumber (recordOf today days p one two) < 100
-record-short today days p (Number one) (Number two) = notice-short (noticeOf (p .level) (daysLeft today (p .expiry)) days)
+record-short today days p (Number one) (Number two) = notice-short (noticeFor today days (p .level) (p .expiry))
 record-short today days p (Number one) Wrong = omega arith
 record-short today days p Wrong two = omega arith
 

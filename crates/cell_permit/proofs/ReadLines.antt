@@ -11,10 +11,9 @@ use Rattle.bytes.specs.declared.numbers.Reading.the-variants.{Number, Wrong}
 use Rattle.text.specs.Characters.{raisedText, isHex}
 use Rattle.text.specs.Texts.{part}
 use Rattle.text.proofs.TextsAt.{all-within}
-use Rattle.dates.specs.Notice.{daysLeft, noticeOf}
 use Rattle.dates.specs.declared.Notice.{Notice}
 use Rattle.cell_permit.specs.CellPermit.{shipWords, checkOf}
-use Rattle.cell_permit.specs.Line.{isPermit, isTail, isLine, partsOf, shapeOf, keyUnder, checked, readWith, givenNumber, readLine}
+use Rattle.cell_permit.specs.Line.{isPermit, isTail, isLine, partsOf, shapeOf, noticeFor, keyUnder, checked, readWith, givenNumber, readLine}
 use Rattle.cell_permit.specs.LineParts.{permitParts, permitOf, fieldParts, fieldsOf}
 use Rattle.cell_permit.specs.declared.PermitParts.{PermitParts}
 use Rattle.cell_permit.specs.declared.Permit.the-variants as permit
@@ -129,7 +128,7 @@ module _ (words : List ℕ) (today days : ℕ) (line : List ℕ) where
           unfolding checked
           refused-21-two wrong = rw (← check-there, eq-eqb (p .check) k right, made-one, wrong)
 
-          pub is-record : (two : ℕ) (notice : Notice) → keyUnder words (p .block2) ≡ Number two → notice ≡ noticeOf (p .level) (daysLeft today (p .expiry)) days
+          pub is-record : (two : ℕ) (notice : Notice) → keyUnder words (p .block2) ≡ Number two → notice ≡ noticeFor today days (p .level) (p .expiry)
               → Record (record {
                 name = p .name;
                 key1 = one;

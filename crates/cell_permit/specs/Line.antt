@@ -14,6 +14,7 @@ use Rattle.text.specs.Texts.{part, allAt}
 use Rattle.dates.specs.Calendar.{isDate}
 use Rattle.dates.specs.Notice.{daysLeft, isDays, noticeOf}
 use Rattle.dates.specs.Notice as notice
+use Rattle.dates.specs.declared.Notice.{Notice}
 use Rattle.blowfish.specs.Cipher.{decipherOf}
 use Rattle.forms.specs.Order.{demand}
 use Rattle.forms.specs.Identifiers.{isHwId}
@@ -89,6 +90,10 @@ shapeOf line = cond (isLine line) (shape.Line (partsOf line)) shape.Wrong
 unfoldable pub commentOf : List ℕ → List ℕ
 commentOf line = cond (isLine line) (drop (commentPlace line) line) []
 
+-- the notice of a service level and an expiry
+abbrev pub noticeFor : ℕ → ℕ → ℕ → ℕ → Notice
+noticeFor today days level expiry = noticeOf level (daysLeft today expiry) days
+
 -- both keys with right padding, else 21
 abbrev pub recordOf : ℕ → ℕ → Parts → Reading → Reading → Line
 recordOf today days p (Number one) (Number two) =
@@ -100,7 +105,7 @@ recordOf today days p (Number one) (Number two) =
       level = p .level;
       edition = p .edition;
       server = p .server;
-      notice = noticeOf (p .level) (daysLeft today (p .expiry)) days;
+      notice = noticeFor today days (p .level) (p .expiry);
     })
 recordOf today days p (Number one) Wrong = Refused 21
 recordOf today days p Wrong two = Refused 21

@@ -4,10 +4,9 @@ use mathlib.Core.Bool.{true}
 use mathlib.Core.List.{_++_}
 use Prim.Native.Nat.{ℕ, _≤_}
 use lib.ListN.{length}
-use Rattle.dates.specs.Notice.{daysLeft, noticeOf}
 use Rattle.forms.specs.Output.{text}
 use Rattle.cell_permit.specs.CellPermit.{shipWords, lineOf, lineEnd, isCell, writtenLine}
-use Rattle.cell_permit.specs.Line.{givenNumber, readLine}
+use Rattle.cell_permit.specs.Line.{noticeFor, givenNumber, readLine}
 use Rattle.cell_permit.specs.declared.Cell.{Cell}
 use Rattle.cell_permit.specs.declared.Line.{Line}
 use Rattle.cell_permit.specs.declared.Line.the-variants.{Record}
@@ -23,7 +22,7 @@ recordFor today days cell =
       level = cell .level;
       edition = cell .edition;
       server = cell .server;
-      notice = noticeOf (cell .level) (daysLeft today (cell .expiry)) days;
+      notice = noticeFor today days (cell .level) (cell .expiry);
     })
 
 -- every good name, expiry, keys, level, edition, Data Server ID and HW_ID: reading what writing gives, without its CR LF, answers exactly

@@ -30,7 +30,7 @@ module _ (words : List ℕ) (today days : ℕ) (s : List ℕ) where
   warned-subscription : (number : ℕ) → eqb 0 number ≡ false → (a : Line) → readWith words today days s ≡ a
       → isNoticed number a ≡ (isNoticed number a && hasLevel 0 a)
   warned-subscription number other (line.Record r) here =
-      with-what-follows _ _
+      with-what-follows (isNoticed number (line.Record r)) (hasLevel 0 (line.Record r))
       (λ noticed. eq-eqb (r .level) 0
       (not-current (r .level) (daysLeft today (r .expiry)) days
       (λ none. false≢true
@@ -39,7 +39,7 @@ module _ (words : List ℕ) (today days : ℕ) (s : List ℕ) where
 
   single-noticed : (a : Line) → readWith words today days s ≡ a → hasLevel 1 a ≡ (hasLevel 1 a && isNoticed 0 a)
   single-noticed (line.Record r) here =
-      with-what-follows _ _
+      with-what-follows (hasLevel 1 (line.Record r)) (isNoticed 0 (line.Record r))
       (λ single.
       ap (λ (n : Notice). eqb (noticeNumber n) 0)
       (own-notice words today days s r here ∙ no-subscription _ _ _ (λ none. omega (arith, none, eqb-true (r .level) 1 single))))
