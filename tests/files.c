@@ -195,10 +195,16 @@ static size_t put_state(enum state state, uint64_t hw_id, size_t *next)
     return place;
 }
 
+/* The number of a good line on its expiry: soon for a subscription, current for a single purchase. */
+static uint32_t number_of_day(const uint8_t *line)
+{
+    return line[CELL_PERMIT + 1] == '0' ? 20 : 0;
+}
+
 /* Every set of reasons to refuse at once, before each kind of line: 18, 14 and 103 come first and give the place back. */
 static void refusals(void)
 {
-    static const uint32_t order[] = {18, 14, 103}, numbers[STATES] = {20, 12, 13, 21, 12, 0, 0, 12};
+    static const uint32_t order[] = {18, 14, 103}, numbers[STATES] = {0, 12, 13, 21, 12, 0, 0, 12};
     for (int i = 0; i < 8 * STATES * 40; i++) {
         unsigned mask = (unsigned)i % 8;
         enum state state = (enum state)(i / 8 % STATES);
@@ -207,7 +213,7 @@ static void refusals(void)
         ABOUT("reasons %X, line of kind %d, round %d", mask, (int)state, i / 8 / STATES);
         lambukir_file_line line = compare_file_line(mask & 1 ? no_hw_id() : typed_hw_id(hw_id), mask & 2 ? no_date(1) : TODAY, mask & 4 ? PICK(no_days) : some_days(),
                                                     file.bytes, file.length, place);
-        expect(line.number, mask ? first_of(order, 3, mask) : numbers[state]);
+        expect(line.number, mask ? first_of(order, 3, mask) : state == GOOD ? number_of_day(file.bytes + place) : numbers[state]);
         same(line.next, mask ? place : next, "%s: next place", about);
         same(line.at_end, !mask && (state == AT_LENGTH || state == AT_ECS), "%s: whether it is the end", about);
     }
@@ -231,7 +237,7 @@ static void huge(void)
     expect(first.number, 0);
     same(first.place, HEADER_LENGTH, "%s: place of the first line", about);
     lambukir_file_line line = lambukir_read_file_line(hw_id, TODAY, 30, map, size, start);
-    expect(line.number, line.level == 0 ? 20 : 0);
+    expect(line.number, number_of_day(map + start));
     same(line.next, start + file.length, "%s: next place", about);
     line = lambukir_read_file_line(hw_id, TODAY, 30, map, size, line.next);
     expect(line.number, 12);

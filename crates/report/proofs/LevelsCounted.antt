@@ -1,20 +1,21 @@
 -- The totals by service level: each answer that is a warning is a subscription's, and that of each single purchase is current.
 -- Assumes nothing.
 use mathlib.Core.Path.{_≡_, refl, sym, ap, _∙_}
-use mathlib.Core.Bool.{Bool, true, false, _&&_, false≢true}
+use mathlib.Core.Bool.{Bool, true, false, _&&_}
 use mathlib.Core.List.{List}
 use Prim.Native.Nat.{ℕ}
 use native.Mathlib.Omega.{arith}
 use borrow.Author.Tests.{eqb-true, eq-eqb}
 use lib.Dec.{eqb}
 use lib.ListN.{length}
-use Rattle.dates.specs.Notice.{daysLeft, noticeOf, noticeNumber}
+use Rattle.dates.specs.Notice.{daysLeft, noticeNumber}
 use Rattle.dates.specs.declared.Notice.{Notice}
 use Rattle.dates.proofs.Levels.{no-subscription, not-current}
 use Rattle.cell_permit.specs.CellPermit.{shipWords}
 use Rattle.cell_permit.specs.Line.{readWith}
 use Rattle.cell_permit.specs.declared.Line.{Line}
 use Rattle.cell_permit.specs.declared.Line.the-variants as line
+use Rattle.cell_permit.specs.declared.Record.{Record}
 use Rattle.cell_permit.proofs.ServiceLevels.{own-notice}
 use Rattle.permit_file.specs.File.{firstPlace}
 use Rattle.report.specs.LookThrough.{hwOf, todayOf, daysOf, fileOf, encAnswers, answersOf, isNoticed}
@@ -26,15 +27,18 @@ with-what-follows : (a b : Bool) → (a ≡ true → b ≡ true) → a ≡ (a &&
 with-what-follows true b follows = sym (follows refl)
 with-what-follows false b follows = refl
 
+-- a line that is counted under a number has that number
+noticed-number : (number : ℕ) (r : Record) → isNoticed number (line.Record r) ≡ true → noticeNumber (r .notice) ≡ number
+noticed-number number r = eqb-true (noticeNumber (r .notice)) number
+
 module _ (words : List ℕ) (today days : ℕ) (s : List ℕ) where
-  warned-subscription : (number : ℕ) → eqb 0 number ≡ false → (a : Line) → readWith words today days s ≡ a
+  warned-subscription : (number : ℕ) → (number ≡ 0 → ⊥) → (a : Line) → readWith words today days s ≡ a
       → isNoticed number a ≡ (isNoticed number a && hasLevel 0 a)
   warned-subscription number other (line.Record r) here =
       with-what-follows (isNoticed number (line.Record r)) (hasLevel 0 (line.Record r))
       (λ noticed. eq-eqb (r .level) 0
       (not-current (r .level) (daysLeft today (r .expiry)) days
-      (λ none. false≢true
-      (sym other ∙ sym (ap (λ (n : ℕ). eqb n number) (ap noticeNumber (own-notice words today days s r here) ∙ none)) ∙ noticed))))
+      (λ none. other (sym (noticed-number number r noticed) ∙ ap noticeNumber (own-notice words today days s r here) ∙ none))))
   warned-subscription number other (line.Refused n) here = refl
 
   single-noticed : (a : Line) → readWith words today days s ≡ a → hasLevel 1 a ≡ (hasLevel 1 a && isNoticed 0 a)
@@ -48,9 +52,9 @@ module _ (words : List ℕ) (today days : ℕ) (s : List ℕ) where
 pub counted-by-level : CountedByLevel
 unfolding answersOf encAnswers
 counted-by-level input = (
-  all-are (isNoticed 20) (hasLevel 0) (λ s. warned-subscription words today days s 20 refl) refl,
+  all-are (isNoticed 20) (hasLevel 0) (λ s. warned-subscription words today days s 20 (λ none. omega (arith, none))) refl,
   (
-    all-are (isNoticed 15) (hasLevel 0) (λ s. warned-subscription words today days s 15 refl) refl,
+    all-are (isNoticed 15) (hasLevel 0) (λ s. warned-subscription words today days s 15 (λ none. omega (arith, none))) refl,
     all-are (hasLevel 1) (isNoticed 0) (single-noticed words today days) refl,
   ),
 )
