@@ -1,4 +1,4 @@
--- What the rules answer to asking, issuing and checking, case by case, in the order of the refusals.
+-- What the rules answer to both ways of asking, to issuing and to checking, case by case, in the order of the refusals.
 -- Assumes nothing.
 use mathlib.Core.Path.{_≡_, refl}
 use mathlib.Core.Bool.{true, false, _&&_}
@@ -9,7 +9,7 @@ use lib.Dec.{leb}
 use Rattle.bytes.proofs.Every.{either}
 use Rattle.dates.specs.Calendar.{isDate}
 use Rattle.dates.specs.Notice.{isDays}
-use Rattle.forms.specs.Identifiers.{isHwId, isCellName}
+use Rattle.forms.specs.Identifiers.{isHwId, isProducer, isCellName}
 use Rattle.forms.specs.Output.{Output, refusal, Answered}
 use Rattle.forms.specs.declared.Written.{Written}
 use Rattle.user_permit.specs.Register.{isRegister}
@@ -22,11 +22,12 @@ use Rattle.cell_permit.specs.declared.Line.the-variants as of-line
 use Rattle.tenants.specs.declared.Held.{Held}
 use Rattle.tenants.specs.declared.Setting.{Setting}
 use Rattle.tenants.specs.declared.Asked.the-variants as asked
-use Rattle.tenants.specs.Cells.{cellOf}
-use Rattle.tenants.specs.Rules.{Own, isTenant, asking, lineCell, lineFor, issuing, checking}
+use Rattle.tenants.specs.declared.Holding.the-variants as of-producer
+use Rattle.tenants.specs.Cells.{cellOf, holdsAny}
+use Rattle.tenants.specs.Rules.{Own, isTenant, asking, askingProducer, lineCell, lineFor, issuing, checking}
 use Rattle.layout.specs.Layout.{isBook, ownIn}
 use Rattle.asking.specs.Issuing.{lineWritten}
-use Rattle.asking.specs.Asking.{editionIn, issuedFrom, checkedBy}
+use Rattle.asking.specs.Asking.{editionIn, holdingIn, issuedFrom, checkedBy}
 
 -- what one output answers and leaves, an equal one does
 pub answered-same : (o same : Output) (before : List ℕ) (answer : Written) (after : List ℕ) → o ≡ same
@@ -61,6 +62,25 @@ module _ (t name : ℕ) where
         pub asking-held : (it : Held) → cellOf name (own .cells) ≡ some it → asking t name own ≡ asked.Edition (it .edition)
         unfolding asking
         asking-held it held = rw (tenant, fit, held)
+
+module _ (s : List ℕ) (t producer : ℕ) where
+  pub holding-damaged : isBook s ≡ false → holdingIn s t producer ≡ of-producer.Refused 101
+  unfolding holdingIn
+  holding-damaged damaged = rw damaged
+
+  module _ (undamaged : isBook s ≡ true) where
+    pub holding-outside : isTenant t ≡ false → holdingIn s t producer ≡ of-producer.Refused 102
+    unfolding holdingIn askingProducer
+    holding-outside outside = rw (undamaged, outside)
+
+    module _ (tenant : isTenant t ≡ true) where
+      pub holding-unfit : isProducer producer ≡ false → holdingIn s t producer ≡ of-producer.Refused 103
+      unfolding holdingIn askingProducer
+      holding-unfit unfit = rw (undamaged, tenant, unfit)
+
+      pub holding-any : isProducer producer ≡ true → holdingIn s t producer ≡ of-producer.Any (holdsAny producer (ownIn s t .cells))
+      unfolding holdingIn askingProducer
+      holding-any fit = rw (undamaged, tenant, fit)
 
 module _ (t : ℕ) (register : List ℕ) (name expiry level : ℕ) (permit : List ℕ) (room : ℕ) where
   module _ (s : List ℕ) where

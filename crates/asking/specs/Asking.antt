@@ -7,12 +7,18 @@ use Rattle.cell_permit.specs.declared.Line.{Line}
 use Rattle.cell_permit.specs.declared.Line.the-variants as of-line
 use Rattle.tenants.specs.declared.Asked.{Asked}
 use Rattle.tenants.specs.declared.Asked.the-variants as asked
-use Rattle.tenants.specs.Rules.{asking, issuing, checking}
+use Rattle.tenants.specs.declared.Holding.{Holding}
+use Rattle.tenants.specs.declared.Holding.the-variants as holding
+use Rattle.tenants.specs.Rules.{asking, askingProducer, issuing, checking}
 use Rattle.layout.specs.Layout.{isBook, ownIn}
 
 -- ask the edition: what it answers
 unfoldable pub editionIn : List ℕ → ℕ → ℕ → Asked
 editionIn s t name = demand (isBook s) (asked.Refused 101) (asking t name (ownIn s t))
+
+-- ask for a producer
+unfoldable pub holdingIn : List ℕ → ℕ → ℕ → Holding
+holdingIn s t producer = demand (isBook s) (holding.Refused 101) (askingProducer t producer (ownIn s t))
 
 -- issue a line, into an output of so many bytes
 unfoldable pub issuedFrom : List ℕ → List ℕ → ℕ → ℕ → ℕ → ℕ → List ℕ → ℕ → Output

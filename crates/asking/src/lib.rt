@@ -1,4 +1,4 @@
-// The tenant calls that leave the book as it is: ask the edition, issue a line, check a line.
+// The tenant calls that leave the book as it is: ask the edition, ask for a producer, issue a line, check a line.
 ghost use mathlib.Core.Path.{_≡_};
 ghost use mathlib.Core.Bool.{true, _&&_};
 ghost use Prim.Native.Nat.{_≤_};
@@ -12,17 +12,20 @@ ghost use Rattle.tenants.specs.Rules.{asking, issuing, checking};
 ghost use Rattle.layout.specs.Layout.{isBook, ownIn};
 ghost use Rattle.records.specs.Finding.{searchedFor};
 ghost use Rattle.asking.specs.Issuing.{lineWritten};
-ghost use Rattle.asking.specs.Asking.{editionIn, issuedFrom, checkedBy};
+ghost use Rattle.asking.specs.Asking.{editionIn, holdingIn, issuedFrom, checkedBy};
 use cell_permit::Cell;
 use cell_permit::Line;
 use forms::Written;
 use forms::identifiers::is_cell_name;
+use forms::identifiers::is_producer;
 use judging::Judged;
 use records::finding::Found;
 use records::finding::cell_at;
 use records::finding::find;
 use tenants::Asked;
+use tenants::Holding;
 use user_permit::UserPermit;
+use walking::any_among;
 
 // The edition of a tenant's cell in an undamaged book, by what the search found.
 fn edition_in(book: &[u8], found: Found, tenant: u32, name: u64) -> Asked
@@ -50,6 +53,22 @@ pub fn ask_edition(book: &[u8], tenant: u32, name: u64) -> Asked
     };
     let found = find(book, first, past, name);
     edition_in(book, found, tenant, name)
+}
+
+// Whether a tenant holds any cell whose name begins with a producer's two characters.
+pub fn ask_producer(book: &[u8], tenant: u32, producer: u32) -> Holding
+    ensures { λ r. ⌜ r ≡ holdingIn (now (book .entry)) tenant producer ⌝ }
+{
+    let Judged::Records { first, past } = judging::judge(book, tenant) else {
+        return Holding::Refused(101);
+    };
+    if 15 < tenant {
+        return Holding::Refused(102);
+    }
+    if !is_producer(producer) {
+        return Holding::Refused(103);
+    }
+    Holding::Any(any_among(book, first, past, producer))
 }
 
 // Whether cell name, expiry and service level are in their ranges and alphabets.

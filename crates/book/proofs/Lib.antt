@@ -5,5 +5,6 @@ pub mod QuotaRules
 pub mod FirstCell
 pub mod Issues
 pub mod DoneCalls
+pub mod Producers
 pub mod EitherCases
 pub mod IssuedCapitals

@@ -5,24 +5,25 @@ use mathlib.Core.Bool.{true}
 use mathlib.Core.List.{List}
 use Prim.Native.Nat.{ℕ}
 use Rattle.tenants.specs.Rules.{Change, enters, withdraws, sets, nothing, refuses, entering, withdrawing, settingDays}
-use Rattle.tenants.specs.Calls.{Call, enter, withdraw, setDays, askEdition, issue, check, changeOf, answerOf}
+use Rattle.tenants.specs.Calls.{Call, enter, withdraw, setDays, askEdition, askProducer, issue, check, changeOf, answerOf}
 use Rattle.tenants.specs.Together.{changed}
 use Rattle.tenants.proofs.KeptGood.{good-after}
 use Rattle.layout.specs.Layout.{bookBytes, bookOf, isBook, ownIn}
 use Rattle.layout.proofs.Promises.{good-reads-back, undamaged-says, written-so}
 use Rattle.changing.specs.Changing.{entry, withdrawal, newDays, bytesAfter}
-use Rattle.asking.specs.Asking.{editionIn, issuedFrom, checkedBy}
+use Rattle.asking.specs.Asking.{editionIn, holdingIn, issuedFrom, checkedBy}
 use Rattle.book.specs.OnBook.{answerIn, bookAfter}
 use Rattle.book.specs.Kept.{StaysUndamaged}
 
 module _ (s : List ℕ) (t : ℕ) (undamaged : isBook s ≡ true) where
   -- the answer goes by what is the tenant's own
   pub answer-says : (call : Call) → answerIn t call s ≡ answerOf t call (ownIn s t)
-  unfolding entry withdrawal newDays editionIn issuedFrom checkedBy
+  unfolding entry withdrawal newDays editionIn holdingIn issuedFrom checkedBy
   answer-says (enter cell) = rw undamaged
   answer-says (withdraw name) = rw undamaged
   answer-says (setDays days) = rw undamaged
   answer-says (askEdition name) = rw undamaged
+  answer-says (askProducer producer) = rw undamaged
   answer-says (issue register name expiry level permit room) = rw undamaged
   answer-says (check hw today line) = rw undamaged
 
@@ -40,6 +41,7 @@ module _ (s : List ℕ) (t : ℕ) (undamaged : isBook s ≡ true) where
   after-says (withdraw name) = rw undamaged (bytes-say (withdrawing t name (ownIn s t)))
   after-says (setDays days) = rw undamaged (bytes-say (settingDays t days (ownIn s t)))
   after-says (askEdition name) = sym (written-so s undamaged)
+  after-says (askProducer producer) = sym (written-so s undamaged)
   after-says (issue register name expiry level permit room) = sym (written-so s undamaged)
   after-says (check hw today line) = sym (written-so s undamaged)
 

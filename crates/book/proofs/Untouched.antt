@@ -4,7 +4,7 @@ use mathlib.Core.Path.{_≡_, refl, ap, _∙_}
 use mathlib.Core.List.{List}
 use Prim.Native.Nat.{ℕ}
 use Rattle.tenants.specs.Rules.{Change, enters, withdraws, sets, nothing, refuses, changeNumber}
-use Rattle.tenants.specs.Calls.{enter, withdraw, setDays, askEdition, issue, check}
+use Rattle.tenants.specs.Calls.{enter, withdraw, setDays, askEdition, askProducer, issue, check}
 use Rattle.tenants.specs.Together.{ownOf}
 use Rattle.tenants.proofs.Apart.{other-after}
 use Rattle.layout.specs.Layout.{bookOf}
@@ -27,5 +27,6 @@ refusal-leaves s t (enter cell) refused = refused-leaves t (entry s t cell) s re
 refusal-leaves s t (withdraw name) refused = refused-leaves t (withdrawal s t name) s refused
 refusal-leaves s t (setDays days) refused = refused-leaves t (newDays s t days) s refused
 refusal-leaves s t (askEdition name) refused = refl
+refusal-leaves s t (askProducer producer) refused = refl
 refusal-leaves s t (issue register name expiry level permit room) refused = refl
 refusal-leaves s t (check hw today line) refused = refl

@@ -2,5 +2,6 @@ pub mod OnBook
 pub mod Mixed
 pub mod Kept
 pub mod DoneCalls
+pub mod Producers
 pub mod Quotas
 pub mod EitherCase

@@ -36,6 +36,10 @@ isMId x = isText isNameCharacter 2 x
 abbrev pub isCellName : ℕ → Bool
 isCellName x = isText isNameCharacter 8 x
 
+-- producer, as a cell name begins: two of A-Z 0-9
+abbrev pub isProducer : ℕ → Bool
+isProducer x = isText isNameCharacter 2 x
+
 -- Data Server ID: two of A-Z 0-9
 abbrev pub isServerId : ℕ → Bool
 isServerId x = isText isNameCharacter 2 x

@@ -1,7 +1,7 @@
 // Identifiers as numbers: whether the bytes of a number have an identifier's form.
 ghost use mathlib.Core.Path.{_≡_};
 ghost use Rattle.text.specs.Characters.{isUpperHex, isNameCharacter};
-ghost use Rattle.forms.specs.Identifiers.{isText, isHwId, isUpperHwId, raisedHwId, isMKey, isMId, isCellName, isServerId};
+ghost use Rattle.forms.specs.Identifiers.{isText, isHwId, isUpperHwId, raisedHwId, isMKey, isMId, isCellName, isProducer, isServerId};
 use text::names::are_hex_characters;
 use text::names::are_name_characters;
 
@@ -67,6 +67,13 @@ pub fn is_cell_name(x: u64) -> bool
     ensures { λ r. ⌜ r ≡ isCellName x ⌝ }
 {
     are_name_characters(x)
+}
+
+// Producer, as a cell name begins: two of A-Z 0-9.
+pub fn is_producer(x: u32) -> bool
+    ensures { λ r. ⌜ r ≡ isProducer x ⌝ }
+{
+    is_name_2(x)
 }
 
 // Data Server ID: two of A-Z 0-9.

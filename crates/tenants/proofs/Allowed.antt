@@ -12,7 +12,7 @@ use Rattle.forms.proofs.Demands.{demanded}
 use Rattle.tenants.specs.declared.Held.{Held}
 use Rattle.tenants.specs.Cells.{cellOf}
 use Rattle.tenants.specs.Rules.{Own, Change, enters, withdraws, sets, nothing, refuses, isTenant, isHeld, isSome, entering, withdrawing, settingDays}
-use Rattle.tenants.specs.Calls.{Call, enter, withdraw, setDays, askEdition, issue, check, changeOf}
+use Rattle.tenants.specs.Calls.{Call, enter, withdraw, setDays, askEdition, askProducer, issue, check, changeOf}
 
 -- the name is held, or the quota has room for a new one
 abbrev pub hasRoom : Held → Own → Bool
@@ -48,5 +48,6 @@ module _ (t : ℕ) (own : Own) where
       where-it-holds (isTenant t) 102 (demand (isDays days) (refuses 103) (sets days))
       (λ tenant. where-it-holds (isDays days) 103 (sets days) (λ right. (tenant, right)))
   allowed (askEdition name) = tt
+  allowed (askProducer producer) = tt
   allowed (issue register name expiry level permit room) = tt
   allowed (check hw today line) = tt

@@ -8,5 +8,6 @@ pub mod Counts
 pub mod OneList
 pub mod KeptGood
 pub mod FoundHeld
+pub mod Producers
 pub mod Apart
 pub mod MixedLists

@@ -1,8 +1,8 @@
 -- One list of cells, kept in name order: a tenant's own cells by their names, and the book's records by their full names.
-use mathlib.Core.Bool.{Bool, true, cond}
+use mathlib.Core.Bool.{Bool, true, false, cond, _||_}
 use mathlib.Core.List.{List, [], _∷_}
 use mathlib.Core.Option.{Option, none, some}
-use Prim.Native.Nat.{ℕ}
+use Prim.Native.Nat.{ℕ, _/_}
 use lib.Dec.{ltb, eqb}
 use Rattle.tenants.specs.declared.Held.{Held}
 
@@ -21,6 +21,15 @@ withdrawn name (d ∷ cells) = cond (eqb name (d .name)) cells (d ∷ withdrawn 
 unfoldable pub cellOf : ℕ → List Held → Option Held
 cellOf name [] = none
 cellOf name (d ∷ cells) = cond (eqb name (d .name)) (some d) (cellOf name cells)
+
+-- whose cell it is: the first two characters of its name, which has six more
+abbrev pub producerOf : ℕ → ℕ
+producerOf name = name / 281474976710656
+
+-- among all the cells, one is of this producer
+unfoldable pub holdsAny : ℕ → List Held → Bool
+holdsAny producer [] = false
+holdsAny producer (d ∷ cells) = eqb (producerOf (d .name)) producer || holdsAny producer cells
 
 -- the first name, if there is one, is above this one
 unfoldable pub startsAbove : ℕ → List Held → Bool

@@ -8,7 +8,7 @@ use lib.ListN.{length}
 use Rattle.dates.specs.Calendar.{isDate}
 use Rattle.dates.specs.Notice.{isDays}
 use Rattle.forms.specs.Order.{demand}
-use Rattle.forms.specs.Identifiers.{isHwId, isCellName, isCellKey}
+use Rattle.forms.specs.Identifiers.{isHwId, isProducer, isCellName, isCellKey}
 use Rattle.forms.specs.Output.{Output, text, refusal}
 use Rattle.user_permit.specs.Register.{isRegister}
 use Rattle.user_permit.specs.UserPermit.{readPermit}
@@ -23,7 +23,9 @@ use Rattle.tenants.specs.declared.Held.{Held}
 use Rattle.tenants.specs.declared.Setting.{Setting}
 use Rattle.tenants.specs.declared.Asked.{Asked}
 use Rattle.tenants.specs.declared.Asked.the-variants as asked
-use Rattle.tenants.specs.Cells.{cellOf}
+use Rattle.tenants.specs.declared.Holding.{Holding}
+use Rattle.tenants.specs.declared.Holding.the-variants as holding
+use Rattle.tenants.specs.Cells.{cellOf, holdsAny}
 
 -- what is one tenant's own: its setting, and its cells in name order
 pub record Own : Type 0 where
@@ -93,6 +95,13 @@ asking t name own =
     demand (isTenant t) (asked.Refused 102)
     (demand (isCellName name) (asked.Refused 103)
     (editionOf (cellOf name (own .cells))))
+
+-- ask whether any cell is held whose name begins with two characters
+unfoldable pub askingProducer : ℕ → ℕ → Own → Holding
+askingProducer t producer own =
+    demand (isTenant t) (holding.Refused 102)
+    (demand (isProducer producer) (holding.Refused 103)
+    (holding.Any (holdsAny producer (own .cells))))
 
 -- what a line is written from: edition and keys as held, the tenant's own Data Server ID, the rest as given
 abbrev pub lineCell : Setting → Held → ℕ → ℕ → Cell

@@ -20,3 +20,9 @@ pub enum Asked {
     Edition(u32),
     Refused(u32),
 }
+
+// What asking for a producer answers: whether any of its cells is held.
+pub enum Holding {
+    Any(bool),
+    Refused(u32),
+}
