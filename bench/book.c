@@ -231,6 +231,22 @@ lambukir_edition plain_ask_edition(const uint8_t *book, size_t book_length, uint
     return (lambukir_edition){.edition = read16(r + 9)};
 }
 
+/* Walks through the tenant's records, which are in order, as far as its names can begin so. */
+lambukir_held plain_ask_producer(const uint8_t *book, size_t book_length, uint32_t tenant, uint32_t producer)
+{
+    parts found;
+    if (!is_book(book, book_length, &found))
+        return (lambukir_held){.number = 101};
+    if (tenant >= TENANTS)
+        return (lambukir_held){.number = 102};
+    if (producer > 0xffff || !is_cell_name(0x303030303030 | (uint64_t)producer << 48))
+        return (lambukir_held){.number = 103};
+    const uint8_t *r = found.starts[tenant];
+    while (r < found.starts[tenant + 1] && read16(r + 1) < producer)
+        r += RECORD_SIZE;
+    return (lambukir_held){.held = r < found.starts[tenant + 1] && read16(r + 1) == producer};
+}
+
 /* The refusals that come before the user permit is looked at: 101, 109, 102, 108, 103; or 0. */
 static uint32_t refuse_issue(const uint8_t *book, size_t book_length, const uint8_t *reg, size_t reg_length, uint32_t tenant, uint64_t name, uint32_t expiry,
                              uint32_t level, size_t out_length, parts *found)

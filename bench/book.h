@@ -12,6 +12,7 @@ uint32_t plain_enter(uint8_t *book, size_t book_length, uint32_t tenant, uint64_
 uint32_t plain_withdraw(uint8_t *book, size_t book_length, uint32_t tenant, uint64_t name);
 uint32_t plain_set_days(uint8_t *book, size_t book_length, uint32_t tenant, uint32_t days);
 lambukir_edition plain_ask_edition(const uint8_t *book, size_t book_length, uint32_t tenant, uint64_t name);
+lambukir_held plain_ask_producer(const uint8_t *book, size_t book_length, uint32_t tenant, uint32_t producer);
 lambukir_written plain_issue(const uint8_t *book, size_t book_length, const uint8_t *reg, size_t reg_length, uint32_t tenant, uint64_t name, uint32_t expiry,
                              uint32_t level, const uint8_t *permit, size_t permit_length, uint8_t *out, size_t out_length);
 lambukir_line plain_check(const uint8_t *book, size_t book_length, uint32_t tenant, uint64_t hw_id, uint32_t today, const uint8_t *line, size_t line_length);

@@ -1,4 +1,5 @@
-/* The calls on a book, ours and by hand: a full book for those that read, and one with room for one record for entering and withdrawing. */
+/* The calls on a book, ours and by hand: a full book for those that read, one that is full of one tenant's cells, and one with room for one record
+   for entering and withdrawing. */
 #ifndef DESK_H
 #define DESK_H
 
@@ -8,7 +9,7 @@
 #define QUOTA (MOST_RECORDS / TENANTS)
 #define ROOMY 7 /* the tenant with room for one cell */
 
-static uint8_t full_book[LAMBUKIR_BOOK_SIZE], our_book[LAMBUKIR_BOOK_SIZE], their_book[LAMBUKIR_BOOK_SIZE];
+static uint8_t full_book[LAMBUKIR_BOOK_SIZE], one_tenants[LAMBUKIR_BOOK_SIZE], our_book[LAMBUKIR_BOOK_SIZE], their_book[LAMBUKIR_BOOK_SIZE];
 static uint64_t held[TENANTS][QUOTA], absent[SAMPLES];
 
 /* Books, the cells that are in them, and cells that are not. False where both sides do not fill a book alike, to its last record. */
@@ -26,6 +27,11 @@ static bool make_books(void)
         sum += lambukir_enter(full_book, sizeof full_book, i % TENANTS, name, edition, one, two);
         sum += plain_enter(their_book, sizeof their_book, i % TENANTS, name, edition, one, two);
     }
+    quotas[0] = MOST_RECORDS;
+    memset(quotas + 1, 0, sizeof quotas - sizeof *quotas);
+    sum += lambukir_open_book(one_tenants, sizeof one_tenants, quotas, TENANTS, servers, 32);
+    for (uint32_t i = 0; i < MOST_RECORDS; i++)
+        sum += lambukir_enter(one_tenants, sizeof one_tenants, 0, held[i % TENANTS][i / TENANTS], 1, 2, 3);
     for (size_t i = 0; i < SAMPLES; i++)
         absent[i] = some_name();
     memcpy(our_book, full_book, sizeof our_book);
@@ -41,6 +47,8 @@ static bool make_books(void)
 #define NTH_CELL held[NTH_TENANT][i / TENANTS % QUOTA]
 BOTH(plain, edition, ask_edition(FULL, NTH_TENANT, NTH_CELL).edition)
 BOTH(plain, judged, ask_edition(FULL, NTH_TENANT, absent[NTH]).number)
+BOTH(plain, producer, ask_producer(FULL, NTH_TENANT, (uint32_t)(NTH_CELL >> 48)).held)
+BOTH(plain, long_walk, ask_producer(one_tenants, sizeof one_tenants, 0, (uint32_t)(absent[NTH] >> 48)).held)
 BOTH(plain, issue, issue(FULL, reg, reg_length, NTH_TENANT, NTH_CELL, 20240301, 0, permits[NTH], 28, written, sizeof written).length)
 BOTH(plain, check, check(FULL, NTH_TENANT, hw_id, 20240131, lines[NTH], line_lengths[NTH]).key_one)
 

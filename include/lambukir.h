@@ -48,6 +48,7 @@
      HW_ID            five of 0-9 A-F, a to f for A to F
      M_KEY            five of 0-9 A-F
      M_ID, server     two of A-Z 0-9; server is a Data Server ID
+     producer         two of A-Z 0-9: the first two of a cell name
      cell name        eight of A-Z 0-9
      level            0 subscription, 1 single purchase
      edition          1 to 999
@@ -126,9 +127,9 @@
 /* The version of this header: as text, and as a number, 10000 for the first of
    its three, 100 for the second and 1 for the third. While the first is 0, a
    new second number may change the interface, and the shared library's name
-   changes with it (liblambukir.so.0.8). */
-#define LAMBUKIR_VERSION "0.8.0"
-#define LAMBUKIR_VERSION_NUMBER 800
+   changes with it (liblambukir.so.0.9). */
+#define LAMBUKIR_VERSION "0.9.0"
+#define LAMBUKIR_VERSION_NUMBER 900
 
 /* The numbers that come back
 
@@ -215,7 +216,7 @@ lambukir_meaning(uint32_t number);
 
      name    eight of A-Z 0-9: a cell name
      hw_id   five of 0-9 A-F, a to f for A to F; the value has capitals
-     code    two of A-Z 0-9: an M_ID or a Data Server ID
+     code    two of A-Z 0-9: an M_ID, a Data Server ID or a producer
      key     ten of 0-9 A-F: the five bytes of a cell key in hex
      date    eight digits YYYYMMDD that are a date */
 #define LAMBUKIR_NO_NAME 0xFFFFFFFFFFFFFFFF
@@ -625,6 +626,20 @@ typedef struct {
 lambukir_edition
 lambukir_ask_edition(const uint8_t *book, size_t book_length, uint32_t tenant,
                      uint64_t name);
+
+typedef struct {
+  uint32_t held;
+  uint32_t number;
+} lambukir_held;
+
+/* Whether the tenant holds any cell of a producer, that is, any whose name
+   begins with these two characters ("NO" is 0x4E4F): held is 1 or 0, and number
+   is 0. After a refusal held is 0 too, so look at number first.
+
+   Refusals, in this order: 101; 102; 103, producer is not of its form. */
+lambukir_held
+lambukir_ask_producer(const uint8_t *book, size_t book_length, uint32_t tenant,
+                      uint32_t producer);
 
 /* Issues a line for the ship that a user permit names, to the start of out: the
    line that lambukir_write_line writes for the ship's HW_ID, with keys and

@@ -55,6 +55,16 @@ static void ask(uint32_t agent, const char *cell)
         tell(held.number);
 }
 
+static void ask_producer(uint32_t agent, const char *producer)
+{
+    lambukir_held any = lambukir_ask_producer(book, sizeof book, agent, lambukir_code_from_text(producer, strlen(producer)));
+    printf("%s asks whether it holds any cell of %s: ", agents[agent], producer);
+    if (any.number == LAMBUKIR_DONE)
+        puts(any.held ? "yes" : "no");
+    else
+        tell(any.number);
+}
+
 /* Issues a permit to a ship, which is known by its user permit. The line goes to `line`; the answer is its length without CR LF, or 0. */
 static size_t issue(uint32_t agent, const char *cell, const uint8_t permit[LAMBUKIR_USER_PERMIT_SIZE], uint8_t line[LAMBUKIR_LINE_SIZE])
 {
@@ -116,5 +126,7 @@ int main(void)
     tell(lambukir_withdraw(book, sizeof book, OSLO, name_of("NO4D0613")));
     ask(OSLO, "NO4D0613");
     ask(HAMBURG, "NO4D0613"); /* which Oslo cannot touch */
+    ask_producer(OSLO, "NO");
+    ask_producer(HAMBURG, "NO");
     return 0;
 }

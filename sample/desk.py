@@ -2,7 +2,7 @@
 import sys
 from ctypes import CDLL, POINTER, Structure, c_char, c_char_p, c_size_t, c_uint16, c_uint32, c_uint64
 
-library = CDLL(sys.argv[1] if len(sys.argv) > 1 else "liblambukir.so.0.8")
+library = CDLL(sys.argv[1] if len(sys.argv) > 1 else "liblambukir.so.0.9")
 
 # Slices, each a pointer and a length. Where the header says const, bytes may be lent as they are; where a call writes, a bytearray, by lend().
 CONST, OUT, QUOTAS = (c_char_p, c_size_t), (POINTER(c_char), c_size_t), (POINTER(c_uint16), c_size_t)
@@ -19,6 +19,10 @@ class Written(Structure):
 
 class Edition(Structure):
     _fields_ = [("edition", c_uint32), ("number", c_uint32)]
+
+
+class Held(Structure):
+    _fields_ = [("held", c_uint32), ("number", c_uint32)]
 
 
 class Line(Structure):
@@ -41,6 +45,7 @@ make_user_permit = declared("make_user_permit", c_uint32, *CONST, c_uint64, c_ui
 open_book = declared("open_book", c_uint32, *OUT, *QUOTAS, *CONST)
 enter = declared("enter", c_uint32, *OUT, c_uint32, c_uint64, c_uint32, c_uint64, c_uint64)
 ask_edition = declared("ask_edition", Edition, *CONST, c_uint32, c_uint64)
+ask_producer = declared("ask_producer", Held, *CONST, c_uint32, c_uint32)
 issue = declared("issue", Written, *CONST, *CONST, c_uint32, c_uint64, c_uint32, c_uint32, *CONST, *OUT)
 check = declared("check", Line, *CONST, c_uint32, c_uint64, c_uint32, *CONST)
 
@@ -86,3 +91,5 @@ print(f"Oslo checks it on {TODAY}: {notice}; edition {read.edition}, keys {read.
 for agent, tenant in ("Oslo", OSLO), ("Hamburg", HAMBURG):
     held = ask_edition(*lend(book), tenant, cell)
     print(f"{agent} asks for its edition of NO4D0613:", held.edition if held.number == 0 else meaning(held.number))
+    any_of = ask_producer(*lend(book), tenant, code_from_text(b"NO", 2))
+    print(f"{agent} asks whether it holds any cell of NO:", ("yes" if any_of.held else "no") if any_of.number == 0 else meaning(any_of.number))

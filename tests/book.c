@@ -33,6 +33,9 @@ static void worked(void)
     expect(lambukir_ask_edition(book, BOOK, 1, name).number, 0);
     same(lambukir_ask_edition(book, BOOK, 1, name).edition, 999, "%s: edition", about);
     expect(lambukir_ask_edition(book, BOOK, 0, name).number, 104);
+    same(lambukir_ask_producer(book, BOOK, 1, 0x4E4F).held, 1, "%s: a cell of NO is held", about);
+    same(lambukir_ask_producer(book, BOOK, 1, 0x4E50).held, 0, "%s: none of NP is", about);
+    same(lambukir_ask_producer(book, BOOK, 0, 0x4E4F).held, 0, "%s: nor one of NO by another tenant", about);
 }
 
 /* The book of a sequence: an opened one with small quotas; crowded, the last eight tenants fill up all that these leave. */
@@ -55,8 +58,8 @@ static void start_sequence(int crowded)
 /* A call of a sequence, now and then spoilt. `issued` is the line that was issued last. */
 static call call_of_sequence(const uint32_t *tenants, const uint64_t *names, const ship_line *issued)
 {
-    static const int kinds[] = {ENTER,    ENTER,       ENTER,       ENTER, ENTER, WITHDRAW, WITHDRAW, WITHDRAW,
-                                SET_DAYS, ASK_EDITION, ASK_EDITION, ISSUE, ISSUE, CHECK,    CHECK};
+    static const int kinds[] = {ENTER,    ENTER,       ENTER,       ENTER,        ENTER,        WITHDRAW, WITHDRAW, WITHDRAW,
+                                SET_DAYS, ASK_EDITION, ASK_EDITION, ASK_PRODUCER, ASK_PRODUCER, ISSUE,    ISSUE,    CHECK, CHECK};
     call c = some_call(PICK(kinds), tenants[random_below(4)], names[random_below(6)]);
     if (c.kind == CHECK && issued->length > 0 && random_below(2))
         put_ship_line(&c, issued);
@@ -74,6 +77,7 @@ static void expect_seen(uint32_t least)
             same(seen[kind][*number] >= least, 1, "%s: %" PRIu32 " came up %" PRIu32 " times", kind_names[kind], *number, seen[kind][*number]);
     }
     same(seen[CHECK][15] >= least && seen[CHECK][20] >= least, 1, "check: 15 and 20 came up");
+    same(seen_held[0] >= least && seen_held[1] >= least, 1, "ask producer: no and yes came up");
 }
 
 /* Of a written line, CR LF included. */
@@ -111,6 +115,7 @@ static void sequence(int which)
 static void sequences(void)
 {
     memset(seen, 0, sizeof seen);
+    memset(seen_held, 0, sizeof seen_held);
     for (int i = 0; i < 2400; i++) {
         start_sequence(i % 4 == 3);
         sequence(i);
@@ -549,6 +554,69 @@ static void quota(void)
     }
 }
 
+/* Which producers a tenant holds a cell of, by every record of the bytes. */
+static void held_producers(uint32_t tenant, uint8_t held[65536])
+{
+    memset(held, 0, 65536);
+    for (const uint8_t *r = book + RECORDS; r < book + RECORDS + record_count() * RECORD_SIZE; r += RECORD_SIZE)
+        if (r[0] == tenant)
+            held[r[NAME_AT] * 256 + r[NAME_AT + 1]] = 1;
+}
+
+/* Each pair of bytes, asked of one tenant; and numbers that are no pair. */
+static void every_pair(uint32_t tenant)
+{
+    static uint8_t held[65536];
+    held_producers(tenant, held);
+    for (uint32_t pair = 0; pair < 65536; pair++) {
+        int good = pair >> 8 && pair & 255 && strchr(NAMES, (int)(pair >> 8)) && strchr(NAMES, (int)(pair & 255));
+        lambukir_held ours = lambukir_ask_producer(book, BOOK, tenant, pair);
+        same(ours.number, good ? 0 : 103, "producer %04" PRIX32 " of tenant %" PRIu32 ": number", pair, tenant);
+        same(ours.held, held[pair], "producer %04" PRIX32 " of tenant %" PRIu32 ": held", pair, tenant);
+    }
+    for (int i = 0; i < 4000; i++) {
+        uint32_t more = some_two() + (1 + (uint32_t)random_below(65535)) * 65536;
+        lambukir_held ours = lambukir_ask_producer(book, BOOK, tenant, more);
+        same(ours.number, 103, "producer %08" PRIX32 " of tenant %" PRIu32 ": number", more, tenant);
+        same(ours.held, 0, "producer %08" PRIX32 " of tenant %" PRIu32 ": held", more, tenant);
+    }
+}
+
+/* A book whose names begin with few characters, so that each tenant's producers are its neighbours' too: what all tenants are answered of those near them. */
+static void few_producers(const char *first, const char *second)
+{
+    static uint8_t held[65536];
+    some_quotas(MOST);
+    open_lists();
+    for (uint32_t t = 0; t < TENANTS; t++)
+        while (lists.tenants[t].held < quotas[t] && random_below(40) != 0)
+            model_enter(&lists, t, (some_text(first, 1) << 8 | some_text(second, 1)) << 48 | some_text(NAMES, 6), 1, some_key(), some_key());
+    model_bytes_of_book(&lists, book);
+    for (uint32_t t = 0; t < TENANTS; t++) {
+        held_producers(t, held);
+        for (const char *a = "09ABYZ"; *a; a++)
+            for (const char *b = "09ABYZ"; *b; b++) {
+                call c = some_call(ASK_PRODUCER, t, 0);
+                c.producer = (uint32_t)*a << 8 | (uint32_t)*b;
+                ABOUT("producer %c%c of tenant %" PRIu32 ", names of %s and then %s", *a, *b, t, first, second);
+                same(compare_call(book, BOOK, &lists, &c).held, held[c.producer], "%s: held, by every record", about);
+            }
+    }
+}
+
+static void producers(void)
+{
+    static const uint32_t filled[] = {0, 40, MOST};
+    static const char *const characters[] = {"0", "Z", "0Z", "AB", "9A", "YZ"};
+    for (size_t i = 0; i < COUNT(filled); i++) {
+        some_book(filled[i], MOST);
+        every_pair((uint32_t)random_below(TENANTS));
+    }
+    for (size_t i = 0; i < COUNT(characters); i++)
+        for (size_t j = 0; j < COUNT(characters); j++)
+            few_producers(characters[i], characters[j]);
+}
+
 int main(int argc, char **argv)
 {
     static const subject subjects[] = {
@@ -563,6 +631,7 @@ int main(int argc, char **argv)
         {"book-orders", orders},
         {"book-issue", issue},
         {"book-quota", quota},
+        {"book-producers", producers},
     };
     seed_random();
     make_materials();

@@ -19,8 +19,8 @@
 #define LINES 48
 #define NUMBERS 128
 
-enum { ENTER, WITHDRAW, SET_DAYS, ASK_EDITION, ISSUE, CHECK, KINDS };
-static const char *const kind_names[KINDS] = {"enter", "withdraw", "set days", "ask edition", "issue", "check"};
+enum { ENTER, WITHDRAW, SET_DAYS, ASK_EDITION, ASK_PRODUCER, ISSUE, CHECK, KINDS };
+static const char *const kind_names[KINDS] = {"enter", "withdraw", "set days", "ask edition", "ask producer", "issue", "check"};
 
 /* The rules' order of refusals of each call, ended by 0. */
 static const uint32_t orders_of[KINDS][12] = {
@@ -28,6 +28,7 @@ static const uint32_t orders_of[KINDS][12] = {
     [WITHDRAW] = {101, 102, 103, 104},
     [SET_DAYS] = {101, 102, 103},
     [ASK_EDITION] = {101, 102, 103, 104},
+    [ASK_PRODUCER] = {101, 102, 103},
     [ISSUE] = {101, 109, 102, 108, 103, 106, 17, 107, 18, 104},
     [CHECK] = {101, 102, 18, 14, 12, 13, 21},
 };
@@ -35,7 +36,7 @@ static const uint32_t orders_of[KINDS][12] = {
 /* A call with all that its kind asks for; the rest is not looked at. */
 typedef struct {
     int kind;
-    uint32_t tenant, edition, days, expiry, level, today;
+    uint32_t tenant, producer, edition, days, expiry, level, today;
     uint64_t name, key_one, key_two, hw_id;
     const uint8_t *reg;
     size_t reg_length, permit_length, line_length, out_length;
@@ -44,7 +45,7 @@ typedef struct {
 
 /* All that a call answers; what its kind does not answer is 0. */
 typedef struct {
-    uint32_t number, edition;
+    uint32_t number, edition, held;
     uint64_t length;
     lambukir_line line;
     uint8_t out[OUT_ROOM];
@@ -67,6 +68,7 @@ static size_t good_register_length, bad_register_lengths[4];
 static ship ships[SHIPS], no_ships[SHIPS], strangers[SHIPS]; /* no_ships decipher to no HW_ID, strangers have an M_ID that is not in the register */
 static ship_line lines[LINES], unpadded[LINES];
 static uint32_t seen[KINDS][NUMBERS]; /* how often each number was compared */
+static uint32_t seen_held[2];         /* how often no and yes were, of a producer */
 
 static inline void make_registers(void)
 {
@@ -160,10 +162,17 @@ static inline uint64_t near_name(uint64_t name)
     return (name & ~((uint64_t)0xFF << shift)) | (uint64_t)(uint8_t)NAMES[random_below(sizeof NAMES - 1)] << shift;
 }
 
+/* The producer of a name: its first two characters. */
+static inline uint32_t producer_of(uint64_t name)
+{
+    return (uint32_t)(name >> 48);
+}
+
 /* A call of a kind with good values, for a tenant and a name. */
 static inline call some_call(int kind, uint32_t tenant, uint64_t name)
 {
     call c = {.kind = kind, .tenant = tenant, .name = name};
+    c.producer = producer_of(random_below(4) ? name : near_name(some_name()));
     c.edition = random_below(3) ? 1 + (uint32_t)random_below(999) : 1 + (uint32_t)random_below(12);
     c.key_one = some_key();
     c.key_two = some_key();
@@ -192,6 +201,8 @@ static inline void spoil_value(call *c)
     uint64_t which = random_below(c->kind == ENTER ? 4 : c->kind == ISSUE ? 3 : 1);
     if (c->kind == SET_DAYS)
         c->days = PICK(no_days);
+    else if (c->kind == ASK_PRODUCER)
+        c->producer = no_two();
     else if (which == 0)
         c->name = no_name();
     else if (c->kind == ISSUE && which == 1)
@@ -267,6 +278,7 @@ static inline answer our_answer(uint8_t *book, size_t length, const call *c)
 {
     answer a = {0};
     lambukir_edition e;
+    lambukir_held h;
     switch (c->kind) {
     case ENTER: a.number = lambukir_enter(book, length, c->tenant, c->name, c->edition, c->key_one, c->key_two); break;
     case WITHDRAW: a.number = lambukir_withdraw(book, length, c->tenant, c->name); break;
@@ -275,6 +287,11 @@ static inline answer our_answer(uint8_t *book, size_t length, const call *c)
         e = lambukir_ask_edition(book, length, c->tenant, c->name);
         a.number = e.number;
         a.edition = e.edition;
+        break;
+    case ASK_PRODUCER:
+        h = lambukir_ask_producer(book, length, c->tenant, c->producer);
+        a.number = h.number;
+        a.held = h.held;
         break;
     case ISSUE: our_issue(book, length, c, &a); break;
     default: our_check(book, length, c, &a);
@@ -287,6 +304,7 @@ static inline answer their_answer(model_book *b, const call *c)
 {
     answer a = {0};
     lambukir_edition e;
+    lambukir_held h;
     lambukir_written w;
     switch (c->kind) {
     case ENTER: a.number = model_enter(b, c->tenant, c->name, c->edition, c->key_one, c->key_two); break;
@@ -296,6 +314,11 @@ static inline answer their_answer(model_book *b, const call *c)
         e = model_ask_edition(b, c->tenant, c->name);
         a.number = e.number;
         a.edition = e.edition;
+        break;
+    case ASK_PRODUCER:
+        h = model_ask_producer(b, c->tenant, c->producer);
+        a.number = h.number;
+        a.held = h.held;
         break;
     case ISSUE:
         memcpy(a.out, c->out, c->out_length);
@@ -326,11 +349,12 @@ static inline void same_answer(const answer *ours, const answer *theirs)
 {
     same(ours->number, theirs->number, "%s: number", about);
     same(ours->edition, theirs->edition, "%s: edition", about);
+    same(ours->held, theirs->held, "%s: held", about);
     same(ours->length, theirs->length, "%s: length of the written line", about);
     same((uint64_t)memcmp(ours->out, theirs->out, OUT_ROOM), 0, "%s: out", about);
     same_line(&ours->line, &theirs->line);
     if (is_refusal(ours->number))
-        same(ours->edition | ours->length, 0, "%s: values of a refusal", about);
+        same(ours->edition | ours->held | ours->length, 0, "%s: values of a refusal", about);
 }
 
 /* Lends a copy of the book for one call of the library. What the call made of it comes back in its place. */
@@ -367,6 +391,8 @@ static inline answer compare_call(uint8_t *book, size_t length, model_book *list
     }
     if (ours.number < NUMBERS)
         seen[c->kind][ours.number]++;
+    if (c->kind == ASK_PRODUCER && ours.number == 0)
+        seen_held[ours.held != 0]++;
     return ours;
 }
 

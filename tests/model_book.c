@@ -182,6 +182,24 @@ lambukir_edition model_ask_edition(const model_book *b, uint32_t tenant, uint64_
     return cell ? (lambukir_edition){.edition = cell->edition} : (lambukir_edition){.number = 104};
 }
 
+/* Looks at every cell that the tenant holds, and compares the first two characters of its name. */
+lambukir_held model_ask_producer(const model_book *b, uint32_t tenant, uint32_t producer)
+{
+    lambukir_held answer = {0};
+    uint8_t asked[2], name[8];
+    if (tenant >= MODEL_TENANTS)
+        return (lambukir_held){.number = 102};
+    if (!is_name_number(producer, 2))
+        return (lambukir_held){.number = 103};
+    bytes_of(asked, 2, producer);
+    for (size_t c = 0; c < b->tenants[tenant].held; c++) {
+        bytes_of(name, 8, b->tenants[tenant].cells[c].name);
+        if (memcmp(name, asked, 2) == 0)
+            answer.held = 1;
+    }
+    return answer;
+}
+
 lambukir_written model_issue(const model_book *b, const uint8_t *reg, size_t reg_length, uint32_t tenant, uint64_t name, uint32_t expiry,
                              uint32_t level, const uint8_t *permit, size_t permit_length, uint8_t *out, size_t out_length)
 {

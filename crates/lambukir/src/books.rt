@@ -6,20 +6,28 @@ ghost use Rattle.forms.specs.Output as output;
 ghost use Rattle.tenants.specs.Rules.{changeNumber};
 ghost use Rattle.opening.specs.Opening.{opened};
 ghost use Rattle.changing.specs.Changing.{entry, withdrawal, newDays, bytesAfter};
-ghost use Rattle.asking.specs.Asking.{editionIn, issuedFrom, checkedBy};
+ghost use Rattle.asking.specs.Asking.{editionIn, holdingIn, issuedFrom, checkedBy};
 ghost use Rattle.lambukir.specs.Permits.{lineRead, textWritten};
-ghost use Rattle.lambukir.specs.Books.{heldOf, editionAsked};
+ghost use Rattle.lambukir.specs.Books.{heldOf, editionAsked, heldAsked};
 use super::permits::LineRead;
 use super::permits::TextWritten;
 use super::permits::line_read;
 use super::permits::text_written;
 use tenants::Asked;
 use tenants::Held;
+use tenants::Holding;
 
 // lambukir_edition of the header.
 #[repr(C)]
 pub struct EditionAsked {
     pub edition: u32,
+    pub number: u32,
+}
+
+// lambukir_held of the header.
+#[repr(C)]
+pub struct HeldAsked {
+    pub held: u32,
     pub number: u32,
 }
 
@@ -75,6 +83,19 @@ pub extern "C" fn lambukir_ask_edition(book: &[u8], tenant: u32, name: u64) -> E
     match asking::ask_edition(book, tenant, name) {
         Asked::Edition(edition) => EditionAsked { edition, number: 0 },
         Asked::Refused(number) => EditionAsked { edition: 0, number },
+    }
+}
+
+#[no_mangle]
+pub extern "C" fn lambukir_ask_producer(book: &[u8], tenant: u32, producer: u32) -> HeldAsked
+    ensures { λ r. ⌜ r ≡ heldAsked (holdingIn (now (book .entry)) tenant producer) ⌝ }
+{
+    match asking::ask_producer(book, tenant, producer) {
+        Holding::Any(any) => HeldAsked {
+            held: if any { 1 } else { 0 },
+            number: 0,
+        },
+        Holding::Refused(number) => HeldAsked { held: 0, number },
     }
 }
 
