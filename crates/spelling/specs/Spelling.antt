@@ -34,7 +34,7 @@ nameFrom t = identifierFrom none64 isNameCharacter 8 t
 abbrev pub hwIdFrom : List ℕ → ℕ
 hwIdFrom t = identifierFrom none64 isUpperHex 5 (raisedText t)
 
--- a code, as M_ID and Data Server ID are: two of A-Z 0-9
+-- a code, as M_ID, Data Server ID and producer are: two of A-Z 0-9
 abbrev pub codeFrom : List ℕ → ℕ
 codeFrom t = identifierFrom none32 isNameCharacter 2 t
 

@@ -40,7 +40,7 @@ abbrev pub HwIdsEitherCase : Type 0
 HwIdsEitherCase =
     ((t u : List ℕ) → raisedText t ≡ raisedText u → hwIdFrom t ≡ hwIdFrom u) × ((x y : ℕ) → raisedHwId x ≡ raisedHwId y → hwIdTo x ≡ hwIdTo y)
 
--- codes: M_IDs, and Data Server IDs, which have the same form
+-- codes: M_IDs, and Data Server IDs and producers, which have the same form
 abbrev pub CodesBack : Type 0
 CodesBack = ThereAndBack isMId (isWord isNameCharacter 2) codeFrom codeTo
 

@@ -45,7 +45,7 @@ pub fn hw_id_from(text: &[u8]) -> u64
     bytes::numbers::number40(&raised, 0)
 }
 
-// M_ID or Data Server ID.
+// M_ID, Data Server ID or producer.
 pub fn code_from(text: &[u8]) -> u32
     ensures { λ r. ⌜ r ≡ codeFrom (now (text .entry)) ⌝ }
 {

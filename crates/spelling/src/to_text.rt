@@ -35,7 +35,7 @@ pub fn hw_id_to(hw: u64) -> [u8; 64]
     spelled(&bytes::numbers::bytes40(raised))
 }
 
-// M_ID or Data Server ID.
+// M_ID, Data Server ID or producer.
 pub fn code_to(code: u32) -> [u8; 64]
     ensures { λ r. ⌜ r ≡ spelled (codeTo code) ⌝ }
 {

@@ -1,6 +1,7 @@
 -- `asking::ask_producer` meets its contract: the walk is through the tenant's own records.
 -- Assumes nothing.
 use mathlib.Core.Path.{_≡_, sym, ap, _∙_}
+use Prim.Native.Nat.{ℕ}
 use borrow.Author.Needs.{needs}
 use borrow.Author.Tests.{not-true, not-false}
 use Rattle.tenants.specs.declared.Holding.the-variants.{Any}
@@ -8,6 +9,7 @@ use Rattle.tenants.proofs.Ranges.{tenant-is, tenant-not}
 use Rattle.judging.specs.Starts.{judged}
 use Rattle.judging.specs.declared.Judged.the-variants.{Records}
 use Rattle.judging.proofs.Judgements.{judged-says, judged-damaged}
+use Rattle.walking.specs.Walking.{anyAmong}
 use Rattle.walking.proofs.OwnWalk.{walks-own}
 use Rattle.asking.proofs.AnswerRules.{holding-damaged, holding-outside, holding-unfit, holding-any}
 use Rattle.asking.proofs.ask_producer.Statement.{statement}
@@ -18,7 +20,14 @@ module _ (e : tie.After-known-told) where
   abbrev start : tie.Start
   start = e .before .before .before .before .before
 
-  judged-so : judged (start .args .book .now) (start .args .tenant) ≡ Records (e .before .first .given .0 .0) (e .before .first .given .0 .1 .0)
+  -- where the tenant's records stand
+  abbrev first : ℕ
+  first = e .before .first .given .0 .0
+
+  abbrev past : ℕ
+  past = e .before .first .given .0 .1 .0
+
+  judged-so : judged (start .args .book .now) (start .args .tenant) ≡ Records first past
   judged-so = sym (e .before .before .before .judge .ensures) ∙ e .before .first .given .1
 
 judge-requires : tie.Need-judge-requires
@@ -53,8 +62,11 @@ returns-4 : tie.Need-returns-4
 returns-4 c =
     let fit = c .before in
     let own = fit .before .before in
-    let so = judged-so (own .before) in
-    ap Any (c .any-among .ensures ∙ walks-own _ _ _ _ _ so)
+    let told = own .before in
+    let so = judged-so told in
+    let args = start told .args in
+    let walked : c .any-among .result ≡ anyAmong (args .book .now) (first told) (past told) (args .producer) = c .any-among .ensures in
+    ap Any (walked ∙ walks-own (args .book .now) (args .tenant) (args .producer) (first told) (past told) so)
     ∙ sym
     (holding-any _ _ _ (judged-says _ _ _ _ so .0) (tenant-is _ (own .if1 .left))
     (sym (fit .before .is-producer .ensures) ∙ not-false _ (fit .if2 .left)))
