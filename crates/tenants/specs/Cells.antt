@@ -2,7 +2,7 @@
 use mathlib.Core.Bool.{Bool, true, false, cond, _||_}
 use mathlib.Core.List.{List, [], _∷_}
 use mathlib.Core.Option.{Option, none, some}
-use Prim.Native.Nat.{ℕ, _/_}
+use Prim.Native.Nat.{ℕ, _/_, _^_}
 use lib.Dec.{ltb, eqb}
 use Rattle.tenants.specs.declared.Held.{Held}
 
@@ -24,7 +24,7 @@ cellOf name (d ∷ cells) = cond (eqb name (d .name)) (some d) (cellOf name cell
 
 -- whose cell it is: the first two characters of its name, which has six more
 abbrev pub producerOf : ℕ → ℕ
-producerOf name = name / 281474976710656
+producerOf name = name / 256 ^ 6
 
 -- among all the cells, one is of this producer
 unfoldable pub holdsAny : ℕ → List Held → Bool
