@@ -172,7 +172,7 @@ static inline uint32_t producer_of(uint64_t name)
 static inline call some_call(int kind, uint32_t tenant, uint64_t name)
 {
     call c = {.kind = kind, .tenant = tenant, .name = name};
-    c.producer = producer_of(random_below(4) ? name : near_name(some_name()));
+    c.producer = producer_of(random_below(4) ? name : some_name());
     c.edition = random_below(3) ? 1 + (uint32_t)random_below(999) : 1 + (uint32_t)random_below(12);
     c.key_one = some_key();
     c.key_two = some_key();
