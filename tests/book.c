@@ -610,7 +610,7 @@ static void producers(void)
     static const char *const characters[] = {"0", "Z", "0Z", "AB", "9A", "YZ"};
     for (size_t i = 0; i < COUNT(filled); i++) {
         some_book(filled[i], MOST);
-        every_pair((uint32_t)random_below(TENANTS));
+        every_pair(filled[i] == 0 ? 0 : book[RECORDS + random_below(filled[i]) * RECORD_SIZE]); /* a tenant that holds something */
     }
     for (size_t i = 0; i < COUNT(characters); i++)
         for (size_t j = 0; j < COUNT(characters); j++)

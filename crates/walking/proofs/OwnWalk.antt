@@ -54,11 +54,11 @@ module _ (s : List ℕ) (t producer : ℕ) where
   abbrev Answers : ℕ → List BookRecord → Type 0
   Answers i records = walked s producer (i + startOf t records) (length (cellsOf t records)) ≡ holdsAny producer (cellsOf t records)
 
-  -- from other records with the same cells, where the tenant's begin at the same record
-  same-answers : (i j : ℕ) (records others : List BookRecord) → i + startOf t records ≡ j + startOf t others
-      → cellsOf t records ≡ cellsOf t others → Answers j others → Answers i records
-  same-answers i j records others start cells answers =
-      ap₂ (λ (k : ℕ) (l : List Held). walked s producer k (length l)) start cells ∙ answers ∙ sym (ap (holdsAny producer) cells)
+  -- it does where the tenant's begin at record k, and are these cells
+  of-cells : (i k : ℕ) (records : List BookRecord) (cells : List Held) → i + startOf t records ≡ k → cellsOf t records ≡ cells
+      → walked s producer k (length cells) ≡ holdsAny producer cells → Answers i records
+  of-cells i k records cells begins are answers =
+      ap₂ (λ (j : ℕ) (l : List Held). walked s producer j (length l)) begins are ∙ answers ∙ sym (ap (holdsAny producer) are)
 
   -- record i in front of the others
   module _ (i : ℕ) (records : List BookRecord) (sorted : Sorted (recordAt s i ∷ records)) where
@@ -66,29 +66,30 @@ module _ (s : List ℕ) (t producer : ℕ) where
     first = recordAt s i
 
     of-one-before : tenantOf first < t → Answers (suc i) records → Answers i (first ∷ records)
-    of-one-before low = same-answers i (suc i) (first ∷ records) records start (cells-not t first records (λ e. omega arith))
+    of-one-before low =
+        of-cells i (suc i + startOf t records) (first ∷ records) (cellsOf t records) begins (cells-not t first records (λ e. omega arith))
       where
-        start : i + startOf t (first ∷ records) ≡ suc i + startOf t records
-        start = unfold startOf in rw (lt-ltb (tenantOf first) t low) (omega arith)
+        begins : i + startOf t (first ∷ records) ≡ suc i + startOf t records
+        begins = unfold startOf in rw (lt-ltb (tenantOf first) t low) (omega arith)
 
     of-one-behind : t < tenantOf first → Answers i (first ∷ records)
-    of-one-behind high = unfold walked holdsAny in rw none refl
+    of-one-behind high = of-cells i (i + startOf t (first ∷ records)) (first ∷ records) [] refl none (unfold walked holdsAny in refl)
       where
         none : cellsOf t (first ∷ records) ≡ []
         none = cells-not t first records (λ e. omega arith) ∙ none-own t (first .name) records (omega arith) (sorted .0)
 
     module _ (mine : tenantOf first ≡ t) where
-      cells-are : cellsOf t (first ∷ records) ≡ cellIn first ∷ cellsOf t records
-      cells-are = cells-mine t first records mine
+      its-cells : cellsOf t (first ∷ records) ≡ cellIn first ∷ cellsOf t records
+      its-cells = cells-mine t first records mine
 
       none-there : startOf t records ≡ 0
       none-there = none-before t (first .name) records (omega arith) (sorted .0)
 
-      starts-here : i + startOf t (first ∷ records) ≡ i
-      starts-here = unfold startOf in rw (le-ltb (tenantOf first) t (omega arith)) (omega (arith, none-there))
+      begins-here : i + startOf t (first ∷ records) ≡ i
+      begins-here = unfold startOf in rw (le-ltb (tenantOf first) t (omega arith)) (omega (arith, none-there))
 
       above : Above (nameOf first) (cellsOf t records)
-      above = (rw cells-are at (own-sorted t (first ∷ records) sorted)) .0
+      above = (rw its-cells at (own-sorted t (first ∷ records) sorted)) .0
 
       -- the walk through its own, of which this is the first
       walks : Answers (suc i) records
@@ -111,10 +112,7 @@ module _ (s : List ℕ) (t producer : ℕ) where
               ∙ sym (holds-rest producer (cellIn first) cells (λ e. omega arith))
 
       of-one-own : Answers (suc i) records → Answers i (first ∷ records)
-      of-one-own answers =
-          ap₂ (λ (k : ℕ) (l : List Held). walked s producer k (length l)) starts-here cells-are
-          ∙ walks answers
-          ∙ sym (ap (holdsAny producer) cells-are)
+      of-one-own answers = of-cells i i (first ∷ records) (cellIn first ∷ cellsOf t records) begins-here its-cells (walks answers)
 
   own-walk : (i n : ℕ) → Sorted (eachFrom (recordAt s) i n) → Answers i (eachFrom (recordAt s) i n)
   unfolding eachFrom cellsOf walked holdsAny
