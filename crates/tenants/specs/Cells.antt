@@ -22,7 +22,7 @@ unfoldable pub cellOf : ℕ → List Held → Option Held
 cellOf name [] = none
 cellOf name (d ∷ cells) = cond (eqb name (d .name)) (some d) (cellOf name cells)
 
--- whose cell it is: the first two characters of its name, which has six more
+-- the producer of a cell: the first two characters of its name, which has six more
 abbrev pub producerOf : ℕ → ℕ
 producerOf name = name / 256 ^ 6
 

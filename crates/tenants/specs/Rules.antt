@@ -96,7 +96,7 @@ asking t name own =
     (demand (isCellName name) (asked.Refused 103)
     (editionOf (cellOf name (own .cells))))
 
--- ask whether any cell is held whose name begins with two characters
+-- ask whether any cell is held whose name begins with two given characters
 unfoldable pub askingProducer : ℕ → ℕ → Own → Holding
 askingProducer t producer own =
     demand (isTenant t) (holding.Refused 102)
