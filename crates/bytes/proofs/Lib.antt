@@ -2,6 +2,7 @@ pub mod Xor
 pub mod Tables
 pub mod Digits
 pub mod Every
+pub mod Counts
 pub mod Pads
 pub mod Places
 pub mod NoChoices

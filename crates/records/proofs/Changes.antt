@@ -2,37 +2,24 @@
 -- Assumes nothing.
 use mathlib.Core.Path.{_≡_, refl, sym, ap, ap₂, _∙_}
 use mathlib.Core.Bool.{true}
-use mathlib.Core.List.{List, [], _∷_, _++_}
+use mathlib.Core.List.{List, _++_}
 use Prim.Native.Nat.{ℕ, suc, _<_}
 use native.Mathlib.Omega.{arith}
 use borrow.Author.Tests.{le-leb, lt-ltb}
 use lib.ListN.{length, length-append}
 use Rattle.tenants.specs.declared.Held.{Held}
-use Rattle.tenants.specs.Cells.{entered, withdrawn}
 use Rattle.tenants.specs.Rules.{enters, withdraws}
 use Rattle.tenants.specs.Together.{inBook, BookRecord, fullName, changed}
-use Rattle.tenants.proofs.Ordered.{entered-first, entered-same, entered-behind, withdrawn-same, withdrawn-other}
 use Rattle.tenants.proofs.Goodness.{Good}
 use Rattle.layout.specs.Layout.{usedLength, bookBytes, recordCount, bookOf, isBook}
 use Rattle.layout.proofs.Frame.{book-frame}
 use Rattle.layout.proofs.Indexed.{book-count}
 use Rattle.layout.proofs.Promises.{good as good-book, written-so}
 use Rattle.records.specs.Moves.{recordPut, insertedAmong, removedAmong, recordInserted, recordRemoved, Replaces, Inserts, Removes}
-use Rattle.records.proofs.Found.{Below, Here, Gone}
+use Rattle.records.proofs.Found.{Here, Gone}
+use Rattle.records.proofs.Listed.{entered-here, entered-gone, withdrawn-here}
 use Rattle.records.proofs.Rewritten.{record-replaced, record-inserted, record-removed}
 use Rattle.records.proofs.OwnFound.{here, gone, found-within, absent-within}
-
--- records of lower names are passed
-entered-past : (c : BookRecord) (front l : List BookRecord) → Below (c .name) front → entered c (front ++ l) ≡ front ++ entered c l
-entered-past c [] l below = refl
-entered-past c (r ∷ front) l below =
-    entered-behind c r (front ++ l) (below .0) ∙ ap (λ (k : List BookRecord). r ∷ k) (entered-past c front l (below .1))
-
-withdrawn-past : (full : ℕ) (front l : List BookRecord) → Below full front → withdrawn full (front ++ l) ≡ front ++ withdrawn full l
-withdrawn-past full [] l below = refl
-withdrawn-past full (r ∷ front) l below =
-    let low : r .name < full = below .0 in
-    withdrawn-other full r (front ++ l) (λ e. omega arith) ∙ ap (λ (k : List BookRecord). r ∷ k) (withdrawn-past full front l (below .1))
 
 module _ (s : List ℕ) (undamaged : isBook s ≡ true) where
   good : Good (bookOf s)
@@ -53,11 +40,7 @@ module _ (s : List ℕ) (undamaged : isBook s ≡ true) where
     replaced h =
         ap₂ (λ (n : ℕ) (l : List ℕ). recordPut n new l) (sym (h .place)) (says ∙ ap with (h .whole))
         ∙ record-replaced (bookOf s .settings) (good .sixteen) (h .front) new (h .back) (h .it)
-        ∙ sym
-        (ap (λ (l : List BookRecord). with (entered new l)) (h .whole)
-        ∙ ap with
-        (entered-past new (h .front) (h .it ∷ h .back) (h .below)
-        ∙ ap (λ (l : List BookRecord). h .front ++ l) (entered-same new (h .it) (h .back) (sym (h .name)))))
+        ∙ ap with (sym (entered-here new (bookOf s .records) i h))
 
     inserted : Gone (fullName t (cell .name)) (bookOf s .records) i → recordCount s < 512
         → insertedAmong (recordCount s) i new s ≡ bookBytes (changed t (enters cell) (bookOf s))
@@ -65,10 +48,7 @@ module _ (s : List ℕ) (undamaged : isBook s ≡ true) where
         ap₂ (λ (n : ℕ) (l : List ℕ). insertedAmong (recordCount s) n new l) (sym (h .place)) (says ∙ ap with (h .whole))
         ∙ record-inserted (bookOf s .settings) (good .sixteen) (h .front) new (h .back) (recordCount s)
         (ap length (sym (h .whole)) ∙ book-count s) room
-        ∙ sym
-        (ap (λ (l : List BookRecord). with (entered new l)) (h .whole)
-        ∙ ap with
-        (entered-past new (h .front) (h .back) (h .below) ∙ ap (λ (l : List BookRecord). h .front ++ l) (entered-first new (h .back) (h .above))))
+        ∙ ap with (sym (entered-gone new (bookOf s .records) i h))
 
   removed : (t name i : ℕ) → Here (fullName t name) (bookOf s .records) i
       → removedAmong (recordCount s) i s ≡ bookBytes (changed t (withdraws name) (bookOf s))
@@ -78,11 +58,7 @@ module _ (s : List ℕ) (undamaged : isBook s ≡ true) where
       ap (λ (m : ℕ). removedAmong m i s) one-more
       ∙ ap₂ (removedAmong (suc n)) (sym (h .place)) (says ∙ ap with (h .whole))
       ∙ record-removed (bookOf s .settings) (good .sixteen) (h .front) (h .it) (h .back) n refl (omega (arith, good .count, book-count s))
-      ∙ sym
-      (ap (λ (l : List BookRecord). with (withdrawn (fullName t name) l)) (h .whole)
-      ∙ ap with
-      (withdrawn-past (fullName t name) (h .front) (h .it ∷ h .back) (h .below)
-      ∙ ap (λ (l : List BookRecord). h .front ++ l) (withdrawn-same (fullName t name) (h .it) (h .back) (sym (h .name)))))
+      ∙ ap with (sym (withdrawn-here (fullName t name) (bookOf s .records) i h))
 
 pub replaces : Replaces
 replaces s t cell i undamaged small found = replaced s undamaged t cell i (here s undamaged t (cell .name) i small found)

@@ -13,7 +13,7 @@ use Rattle.bytes.proofs.Every.{either}
 use Rattle.tenants.specs.Together.{BookRecord, full}
 use Rattle.tenants.specs.Cells.{cellOf}
 use Rattle.tenants.specs.Rules.{isSome}
-use Rattle.tenants.proofs.Ordered.{Above, Sorted, Stands, before, same, behind, stands, above-lower, found-here, found-later, absent-above}
+use Rattle.tenants.proofs.Ordered.{Above, Below, Sorted, Stands, before, same, behind, stands, above-lower, found-here, found-later, absent-above}
 use Rattle.records.specs.declared.finding.Found.{Found}
 use Rattle.records.specs.declared.finding.Found.the-variants.{At, Absent}
 
@@ -25,11 +25,6 @@ placeOf name (r ∷ records) = cond (ltb (full r) name) (suc (placeOf name recor
 -- where its cell stands, or where it would go
 unfoldable pub foundIn : ℕ → List BookRecord → Found
 foundIn name records = cond (isSome (cellOf name records)) (At (placeOf name records)) (Absent (placeOf name records))
-
--- each name is below this one
-abbrev pub Below : ℕ → List BookRecord → Type 0
-Below full [] = Unit {0}
-Below full (r ∷ records) = (r .name < full) × Below full records
 
 -- the records around record i, which has the full name
 pub record Here (full : ℕ) (records : List BookRecord) (i : ℕ) : Type 0 where

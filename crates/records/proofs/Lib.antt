@@ -1,4 +1,5 @@
 pub mod Found
+pub mod Listed
 pub mod Halving
 pub mod RecordParts
 pub mod OwnPart
@@ -10,3 +11,4 @@ pub mod Around
 pub mod Rewritten
 pub mod Guarded
 pub mod Changes
+pub mod Later

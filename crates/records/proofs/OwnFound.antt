@@ -1,7 +1,7 @@
 -- What the search tells of an undamaged book's records and of a tenant's own cells.
 -- Assumes nothing.
-use mathlib.Core.Path.{_≡_, sym, ap, ap₂, _∙_}
-use mathlib.Core.Bool.{true}
+use mathlib.Core.Path.{_≡_, refl, sym, ap, ap₂, _∙_}
+use mathlib.Core.Bool.{true, false, false≢true}
 use mathlib.Core.List.{List}
 use mathlib.Core.Option.{none, some}
 use Prim.Native.Nat.{ℕ, _≤_, _<_}
@@ -9,12 +9,14 @@ use native.Mathlib.Omega.{arith}
 use lib.ListN.{length, getD, length-append}
 use lib.Seq.{getD-at}
 use Rattle.tenants.specs.Cells.{cellOf}
+use Rattle.tenants.specs.Rules.{isSome}
 use Rattle.tenants.specs.Together.{cellIn, BookRecord, names, fullName, nameOf, named, ownOf}
 use Rattle.tenants.proofs.OwnCells.{cell-found, cell-absent}
 use Rattle.layout.specs.Layout.{recordAt, recordCount, bookOf, isBook, ownIn}
 use Rattle.layout.proofs.Indexed.{book-count, book-record}
 use Rattle.layout.proofs.Promises.{good}
 use Rattle.judging.proofs.Judgements.{judged-says}
+use Rattle.records.specs.declared.finding.Found.{Found}
 use Rattle.records.specs.declared.finding.Found.the-variants.{At, Absent}
 use Rattle.records.specs.Finding.{searched, searchedFor, SearchesOwn, FindsHeld, FindsNone}
 use Rattle.records.proofs.Found.{Here, Gone, found-at, found-absent}
@@ -67,3 +69,19 @@ finds-held s t name i undamaged small found = cell-there s undamaged t name i sm
 
 pub finds-none : FindsNone
 finds-none s t name i undamaged small found = no-cell s undamaged t name i small found
+
+-- whether the tenant holds a name or not, it has its place among the records
+module _ (s : List ℕ) (undamaged : isBook s ≡ true) (t name : ℕ) (small : name < names) where
+  pub held-somewhere : isSome (cellOf name (ownIn s t .cells)) ≡ true → (i : ℕ) × Here (fullName t name) (bookOf s .records) i
+  held-somewhere held = go (searchedFor s t name) refl
+    where
+      go : (f : Found) → searchedFor s t name ≡ f → (i : ℕ) × Here (fullName t name) (bookOf s .records) i
+      go (At i) found = (i, here s undamaged t name i small found)
+      go (Absent i) found = absurd (false≢true (sym (ap isSome (no-cell s undamaged t name i small found)) ∙ held))
+
+  pub absent-somewhere : isSome (cellOf name (ownIn s t .cells)) ≡ false → (i : ℕ) × Gone (fullName t name) (bookOf s .records) i
+  absent-somewhere absent = go (searchedFor s t name) refl
+    where
+      go : (f : Found) → searchedFor s t name ≡ f → (i : ℕ) × Gone (fullName t name) (bookOf s .records) i
+      go (At i) found = absurd (false≢true (sym absent ∙ ap isSome (cell-there s undamaged t name i small found)))
+      go (Absent i) found = (i, gone s undamaged t name i small found)

@@ -1,5 +1,5 @@
 -- Bytes of a book moved by any size, up and down; a record written, put in or taken out. They say it of any bytes; of an undamaged book they
--- say what entering and withdrawing leave (`Replaces`, `Inserts`, `Removes`).
+-- say what entering and withdrawing leave (`Replaces`, `Inserts`, `Removes`), and how many records are later (`LaterEntered`, `LaterWithdrawn`).
 use mathlib.Core.Path.{_≡_}
 use mathlib.Core.Bool.{true, cond, _&&_}
 use mathlib.Core.List.{List, _++_}
@@ -11,6 +11,7 @@ use Rattle.text.specs.Texts.{placed}
 use Rattle.tenants.specs.declared.Held.{Held}
 use Rattle.tenants.specs.Rules.{enters, withdraws}
 use Rattle.tenants.specs.Together.{BookRecord, names, inBook, changed}
+use Rattle.tenants.specs.House.{laterIn}
 use Rattle.layout.specs.Layout.{recordSize, zeros, recordBytes, usedLength, bookBytes, recordPlace, recordCount, bookOf, isBook}
 use Rattle.records.specs.declared.finding.Found.the-variants.{At, Absent}
 use Rattle.records.specs.Finding.{searchedFor}
@@ -78,3 +79,15 @@ abbrev pub Removes : Type 0
 Removes =
     (s : List ℕ) (t name i : ℕ) → isBook s ≡ true → name < names → searchedFor s t name ≡ At i
     → recordRemoved i s ≡ bookBytes (changed t (withdraws name) (bookOf s))
+
+-- of the records then, those that are later in order than an entered cell of a new name are as many as stand after it
+abbrev pub LaterEntered : Type 0
+LaterEntered =
+    (s : List ℕ) (t : ℕ) (cell : Held) (i : ℕ) → isBook s ≡ true → cell .name < names → searchedFor s t (cell .name) ≡ Absent i
+    → suc i + laterIn (changed t (enters cell) (bookOf s)) t (cell .name) ≡ length (changed t (enters cell) (bookOf s) .records)
+
+-- and than a withdrawn one, as many as stood after it
+abbrev pub LaterWithdrawn : Type 0
+LaterWithdrawn =
+    (s : List ℕ) (t name i : ℕ) → isBook s ≡ true → name < names → searchedFor s t name ≡ At i
+    → suc i + laterIn (changed t (withdraws name) (bookOf s)) t name ≡ recordCount s

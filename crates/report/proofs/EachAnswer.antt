@@ -6,6 +6,7 @@ use mathlib.Core.List.{List, [], _∷_}
 use Prim.Native.Nat.{ℕ, zero, suc, _+_}
 use lib.Dec.{leb, ltb}
 use lib.ListN.{length}
+use Rattle.bytes.specs.Every.{countOf}
 use Rattle.forms.proofs.Demands.{demanded}
 use Rattle.cell_permit.specs.declared.Line.{Line}
 use Rattle.cell_permit.specs.declared.Line.the-variants as line
@@ -14,7 +15,7 @@ use Rattle.permit_file.specs.File.{cursor, stepBy, onward}
 use Rattle.permit_file.specs.declared.Cursor.{Cursor}
 use Rattle.permit_file.specs.declared.Step.{Step}
 use Rattle.permit_file.specs.declared.Step.the-variants.{Record, Refused, End}
-use Rattle.report.specs.LookThrough.{following, answersFrom, countOf}
+use Rattle.report.specs.LookThrough.{following, answersFrom}
 
 -- it holds of a step's answer; the end has none
 abbrev pub OfStep : (Line → Type 0) → Step → Type 0

@@ -6,9 +6,10 @@ use mathlib.Core.List.{List, [], _∷_, _++_, append-assoc, append-nil}
 use Prim.Native.Nat.{ℕ, suc, _+_}
 use native.Mathlib.Omega.{arith}
 use lib.ListN.{length, length-append}
-use Rattle.bytes.proofs.Every.{either}
+use Rattle.bytes.specs.Every.{countOf}
+use Rattle.bytes.proofs.Counts.{count-append}
 use Rattle.cell_permit.specs.declared.Line.{Line}
-use Rattle.report.specs.LookThrough.{rowOf, rowsFrom, isNoticed, isRefused, countOf}
+use Rattle.report.specs.LookThrough.{rowOf, rowsFrom, isNoticed, isRefused}
 use Rattle.report.specs.Turns.{oneIf, tallyOf, counted}
 
 pub rows-append : (n : ℕ) (done more : List Line) → rowsFrom n (done ++ more) ≡ rowsFrom n done ++ rowsFrom (n + length done) more
@@ -18,13 +19,6 @@ rows-append n (a ∷ done) more =
     let e : suc n + length done ≡ n + suc (length done) = omega arith in
     ap (λ (l : List ℕ). rowOf n a ++ l) (rows-append (suc n) done more ∙ ap (λ (m : ℕ). rowsFrom (suc n) done ++ rowsFrom m more) e)
     ∙ sym (append-assoc (rowOf n a) (rowsFrom (suc n) done) (rowsFrom (n + suc (length done)) more))
-
-count-append : (test : Line → Bool) (done more : List Line) → countOf test (done ++ more) ≡ countOf test done + countOf test more
-unfolding countOf
-count-append test [] more = omega arith
-count-append test (a ∷ done) more =
-    let rest = count-append test done more in
-    either (test a) (λ so. rw so (omega arith)) (λ not-so. rw not-so (omega arith))
 
 count-one : (test : Line → Bool) (a : Line) → countOf test (a ∷ []) ≡ oneIf (test a)
 unfolding countOf

@@ -9,6 +9,7 @@ use native.Mathlib.Omega.{arith}
 use borrow.Author.Tests.{leb-true, ltb-true}
 use lib.Dec.{leb, ltb}
 use lib.ListN.{length, drop, length-append}
+use Rattle.bytes.specs.Every.{countOf}
 use Rattle.bytes.proofs.Digits.{digits-length}
 use Rattle.bytes.proofs.Every.{either}
 use Rattle.text.specs.Texts.{width}
@@ -22,7 +23,7 @@ use Rattle.permit_file.specs.File.{cursor, stepBy, onward, firstPlace, isEnd, n
 use Rattle.permit_file.specs.declared.Cursor.{Cursor}
 use Rattle.permit_file.specs.declared.Step.{Step}
 use Rattle.permit_file.specs.declared.Step.the-variants.{Record, Refused, End}
-use Rattle.report.specs.LookThrough.{following, answersFrom, encAnswers, nameShown, isNoticed, isRefused, rowOf, rowsFrom, countOf, lineEndsIn, roomFor}
+use Rattle.report.specs.LookThrough.{following, answersFrom, encAnswers, nameShown, isNoticed, isRefused, rowOf, rowsFrom, lineEndsIn, roomFor}
 use Rattle.report.specs.Enough.{RoomEnough}
 use Rattle.report.specs.Turns.{Few, rowEnd, tallyOf}
 use Rattle.report.proofs.Answers.{rises, enough}

@@ -4,6 +4,7 @@ use mathlib.Core.List.{List, [], _∷_, _++_}
 use Prim.Native.Nat.{ℕ, zero, suc, _+_, _*_}
 use lib.Dec.{leb, eqb}
 use lib.ListN.{length, getD, drop}
+use Rattle.bytes.specs.Every.{countOf}
 use Rattle.bytes.specs.Numbers.{bytesOf}
 use Rattle.bytes.specs.Places.{numberAt}
 use Rattle.text.specs.Ascii.{byte, ascii}
@@ -95,11 +96,6 @@ isNoticed number (line.Refused n) = false
 abbrev pub isRefused : Line → Bool
 isRefused (line.Record r) = false
 isRefused (line.Refused n) = true
-
--- how many answers pass a test
-unfoldable pub countOf : (Line → Bool) → List Line → ℕ
-countOf test [] = 0
-countOf test (a ∷ answers) = cond (test a) (suc (countOf test answers)) (countOf test answers)
 
 -- the totals by kind: each is the number of ENC lines of that kind
 unfoldable pub totalsOf : List Line → List ℕ

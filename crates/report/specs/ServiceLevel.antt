@@ -4,9 +4,10 @@ use mathlib.Core.Bool.{Bool, false, _&&_}
 use mathlib.Core.List.{List}
 use Prim.Native.Nat.{ℕ}
 use lib.Dec.{eqb}
+use Rattle.bytes.specs.Every.{countOf}
 use Rattle.cell_permit.specs.declared.Line.{Line}
 use Rattle.cell_permit.specs.declared.Line.the-variants as line
-use Rattle.report.specs.LookThrough.{answersOf, isNoticed, countOf}
+use Rattle.report.specs.LookThrough.{answersOf, isNoticed}
 
 -- a record of this service level
 abbrev pub hasLevel : ℕ → Line → Bool

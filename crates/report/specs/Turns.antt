@@ -3,6 +3,7 @@ use mathlib.Core.Bool.{Bool, cond}
 use mathlib.Core.List.{List, [], _++_}
 use Prim.Native.Nat.{ℕ, _+_, _<_}
 use lib.ListN.{length}
+use Rattle.bytes.specs.Every.{countOf}
 use Rattle.text.specs.Ascii.{ascii}
 use Rattle.text.specs.Texts.{numeral}
 use Rattle.cell_permit.specs.Line.{lineNumber}
@@ -10,7 +11,7 @@ use Rattle.cell_permit.specs.declared.Line.{Line}
 use Rattle.cell_permit.specs.declared.Line.the-variants as line
 use Rattle.permit_file.specs.declared.Step.{Step}
 use Rattle.permit_file.specs.declared.Step.the-variants as step
-use Rattle.report.specs.LookThrough.{isNoticed, isRefused, countOf, nameShown, rowOf, rowsFrom}
+use Rattle.report.specs.LookThrough.{isNoticed, isRefused, nameShown, rowOf, rowsFrom}
 use Rattle.report.specs.declared.rows.Tally.{Tally}
 
 -- the number's part of a row

@@ -9,5 +9,6 @@ pub mod OneList
 pub mod KeptGood
 pub mod FoundHeld
 pub mod Producers
+pub mod Later
 pub mod Apart
 pub mod MixedLists

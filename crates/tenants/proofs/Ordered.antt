@@ -18,6 +18,11 @@ abbrev pub Above : ℕ → List Held → Type 0
 Above name [] = Unit {0}
 Above name (d ∷ cells) = (name < d .name) × Above name cells
 
+-- each name is below this one
+abbrev pub Below : ℕ → List Held → Type 0
+Below name [] = Unit {0}
+Below name (d ∷ cells) = (d .name < name) × Below name cells
+
 -- the names rise strictly
 abbrev pub Sorted : List Held → Type 0
 Sorted [] = Unit {0}

@@ -3,4 +3,5 @@ pub mod Rules
 pub mod Calls
 pub mod Alone
 pub mod Together
+pub mod House
 pub mod OneList

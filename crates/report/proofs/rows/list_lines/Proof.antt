@@ -5,12 +5,13 @@ use mathlib.Core.List.{List}
 use Prim.Native.Nat.{ℕ, _-_, _≤_}
 use native.Mathlib.Omega.{arith}
 use lib.ListN.{length}
+use Rattle.bytes.specs.Every.{countOf}
 use Rattle.text.proofs.PlacedTexts.{length-placed}
 use Rattle.cell_permit.specs.Line.{readWith}
 use Rattle.cell_permit.specs.declared.Line.{Line}
 use Rattle.cell_permit.proofs.LineNumbers.{two-digits}
 use Rattle.permit_file.specs.File.{stepBy}
-use Rattle.report.specs.LookThrough.{rowsFrom, countOf}
+use Rattle.report.specs.LookThrough.{rowsFrom}
 use Rattle.report.specs.Turns.{tallyOf}
 use Rattle.report.specs.declared.rows.Tally.{Tally}
 use Rattle.report.proofs.Room.{Short}
