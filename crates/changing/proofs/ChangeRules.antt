@@ -11,21 +11,22 @@ use Rattle.dates.specs.Notice.{isDays}
 use Rattle.forms.specs.Identifiers.{isCellName}
 use Rattle.tenants.specs.declared.Held.{Held}
 use Rattle.tenants.specs.Cells.{cellOf}
-use Rattle.tenants.specs.Rules.{Change, enters, withdraws, sets, refuses, changeNumber, isTenant, isHeld, isSome, entering, withdrawing, settingDays}
+use Rattle.tenants.specs.Rules.{Change, enters, withdraws, sets, refuses, isTenant, isHeld, isSome, entering, withdrawing, settingDays}
 use Rattle.layout.specs.Layout.{isBook, ownIn}
 use Rattle.changing.specs.Changing.{entry, withdrawal, newDays, bytesAfter}
 
--- a call that does a change, and answers its number
-abbrev pub Does : ℕ → List ℕ → Change → ℕ → List ℕ → Type 0
-Does t s change r after = (r ≡ changeNumber change) × (after ≡ bytesAfter t change s)
+-- a call that does a change, and answers what is answered to it: the house or, by the number, a tenant
+abbrev pub Does : {A : Type 0} → (Change → A) → ℕ → List ℕ → Change → A → List ℕ → Type 0
+Does answer t s change r after = (r ≡ answer change) × (after ≡ bytesAfter t change s)
 
--- a refusal answers its number and leaves the bytes
-pub refused : (t : ℕ) (s : List ℕ) (change : Change) (n : ℕ) → change ≡ refuses n → Does t s change n s
-refused t s change n e = (sym (ap changeNumber e), sym (ap (λ (c : Change). bytesAfter t c s) e))
+module _ {A : Type 0} (answer : Change → A) (t : ℕ) (s : List ℕ) (change : Change) where
+  -- a refusal is answered and leaves the bytes
+  pub refused : (n : ℕ) → change ≡ refuses n → Does answer t s change (answer (refuses n)) s
+  refused n e = (ap answer (sym e), ap (λ (c : Change). bytesAfter t c s) (sym e))
 
--- what does one change does an equal one
-pub does-same : (t : ℕ) (s after : List ℕ) (change same : Change) (r : ℕ) → change ≡ same → Does t s same r after → Does t s change r after
-does-same t s after change same r e does = rw e does
+  -- what does one change does an equal one
+  pub does-same : (same : Change) (r : A) (after : List ℕ) → change ≡ same → Does answer t s same r after → Does answer t s change r after
+  does-same same r after e does = rw e does
 
 module _ (s : List ℕ) (t : ℕ) (cell : Held) where
   pub entry-damaged : isBook s ≡ false → entry s t cell ≡ refuses 101
@@ -33,6 +34,10 @@ module _ (s : List ℕ) (t : ℕ) (cell : Held) where
   entry-damaged damaged = rw damaged
 
   module _ (undamaged : isBook s ≡ true) where
+    pub entry-rule : entry s t cell ≡ entering t cell (ownIn s t)
+    unfolding entry
+    entry-rule = rw undamaged
+
     pub entry-outside : isTenant t ≡ false → entry s t cell ≡ refuses 102
     unfolding entry entering
     entry-outside outside = rw (undamaged, outside)

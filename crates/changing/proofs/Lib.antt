@@ -1,3 +1,4 @@
+pub mod Numbers
 pub mod ChangeRules
 pub mod Days
 pub mod Done

@@ -1,8 +1,10 @@
 -- Which records are later in order than a tenant's cell: those whose full name is above its own. In a list that is in order they are those after it.
+-- And what a change that enters a cell moves: none where the name is held, and else the later ones.
 -- Assumes nothing.
 use mathlib.Core.Path.{_≡_, refl, ap, _∙_}
 use mathlib.Core.Bool.{true, false}
 use mathlib.Core.List.{List, [], _∷_, _++_}
+use mathlib.Core.Option.{none, some}
 use Prim.Native.Nat.{ℕ, suc, _+_, _≤_, _<_}
 use native.Mathlib.Omega.{arith}
 use borrow.Author.Tests.{ltb-false, eqb-true, lt-ltb, le-ltb, eq-eqb}
@@ -11,8 +13,11 @@ use lib.ListN.{length}
 use Rattle.bytes.specs.Every.{countOf}
 use Rattle.bytes.proofs.Every.{either}
 use Rattle.bytes.proofs.Counts.{count-append, count-passes, count-fails}
-use Rattle.tenants.specs.Together.{BookRecord, names, fullName, full, tenantOf, nameOf}
-use Rattle.tenants.specs.House.{isLater}
+use Rattle.tenants.specs.declared.Held.{Held}
+use Rattle.tenants.specs.Cells.{cellOf}
+use Rattle.tenants.specs.Rules.{enters}
+use Rattle.tenants.specs.Together.{Book, BookRecord, names, fullName, full, tenantOf, nameOf, ownOf, changed}
+use Rattle.tenants.specs.House.{isLater, laterIn, movedBy}
 use Rattle.tenants.proofs.Ordered.{Above, Below}
 
 module _ (t name : ℕ) (small : name < names) where
@@ -68,3 +73,11 @@ module _ (t name : ℕ) (small : name < names) where
           none-later front below,
           all-later back above,
         )
+
+module _ (t : ℕ) (cell : Held) (book : Book) where
+  pub replaced-moves-none : (c : Held) → cellOf (cell .name) (ownOf t book .cells) ≡ some c → movedBy t (enters cell) book ≡ 0
+  replaced-moves-none c held = rw held
+
+  pub new-moves-later : cellOf (cell .name) (ownOf t book .cells) ≡ none
+      → movedBy t (enters cell) book ≡ laterIn (changed t (enters cell) book) t (cell .name)
+  new-moves-later absent = rw absent

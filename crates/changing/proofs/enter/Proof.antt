@@ -1,186 +1,29 @@
--- `changing::enter` meets its contract: each refusal in its order, then a held name is replaced and a new one goes by the quota.
+-- `changing::enter` meets its contract: what the house is answered, with the number alone.
 -- Assumes nothing.
-use mathlib.Core.Path.{_≡_, sym, _∙_}
-use mathlib.Core.Bool.{true}
-use mathlib.Core.List.{List}
-use Prim.Native.Nat.{ℕ, _+_, _≤_}
-use native.Mathlib.Omega.{arith}
+use mathlib.Core.Path.{ap, _∙_}
 use borrow.Author.Needs.{needs}
-use borrow.Author.Tests.{not-true, not-false}
-use lib.ListN.{length}
-use Rattle.tenants.specs.declared.Held.{Held}
-use Rattle.tenants.specs.Rules.{isHeld}
-use Rattle.tenants.proofs.Ranges.{tenant-is, tenant-not}
-use Rattle.layout.specs.Layout.{isBook, ownIn}
-use Rattle.judging.specs.Starts.{judged}
-use Rattle.judging.specs.declared.Judged.the-variants.{Records}
-use Rattle.judging.proofs.Judgements.{judged-says, judged-damaged}
-use Rattle.records.specs.declared.finding.Found.the-variants.{At}
-use Rattle.records.specs.Finding.{searchedFor}
-use Rattle.records.proofs.OwnPart.{counts-held}
-use Rattle.records.proofs.OwnFound.{searches-own}
-use Rattle.changing.proofs.ChangeRules.{refused, entry-damaged, entry-outside, entry-unfit}
-use Rattle.changing.proofs.Done.{entered-held}
+use Rattle.changing.specs.Changing.{entry}
+use Rattle.changing.specs.House.{movedNumber}
+use Rattle.changing.proofs.Numbers.{same-number}
 use Rattle.changing.proofs.enter.Statement.{statement}
 use Rattle.changing.proofs.enter.Tie as tie
 
--- what is known once the book is found undamaged, and the tenant is one
-module _ (e : tie.After-known-told) where
-  abbrev start : tie.Start
-  start = e .before .before .before .before .before .before
+enter-requires : tie.Need-enter-requires
+enter-requires c κs = search needs
 
-  abbrev s : List ℕ
-  s = start .args .book .now
-
-  judged-so : judged s (start .args .tenant) ≡ Records (e .before .first .given .0 .0) (e .before .first .given .0 .1 .0)
-  judged-so = sym (e .before .before .before .judge .ensures) ∙ e .before .first .given .1
-
-  undamaged : isBook s ≡ true
-  undamaged = judged-says s (start .args .tenant) _ _ judged-so .0
-
-  -- from where its records begin to where they end they are its cells
-  own-count : e .before .first .given .0 .1 .0 ≡ e .before .first .given .0 .0 + length (ownIn s (start .args .tenant) .cells)
-  own-count =
-      let places = judged-says s (start .args .tenant) _ _ judged-so .1 in
-      omega (arith, places .0, places .1, counts-held s (start .args .tenant))
-
-module _ (e : tie.Else1) where
-  abbrev t : ℕ
-  t = start (e .before) .args .tenant
-
-  tenant : t ≤ 15
-  tenant = e .if1 .left
-
--- and once the cell is found fit
-module _ (e : tie.Else2) where
-  abbrev second : tie.Else1
-  second = e .before .before
-
-  abbrev first : tie.After-known-told
-  first = second .before
-
-  abbrev cell : Held
-  cell = start first .args .cell
-
-  fit : isHeld cell ≡ true
-  fit = sym (e .before .is-held .ensures) ∙ not-false _ (e .if2 .left)
-
--- what the search finds is what it finds among the tenant's own
-told : (f : tie.After-find)
-    → let d = f .before .before in f .find .result ≡ searchedFor (s (first d)) (t (second d)) (cell d .name)
-told f =
-    let d = f .before .before in
-    f .find .ensures ∙ searches-own (s (first d)) (t (second d)) (cell d .name) _ _ (judged-so (first d))
-
--- the name is held at this place
-module _ (h : tie.After-i) where
-  abbrev fitted : tie.Else2
-  fitted = h .before .before .before .before
-
-  at-place : searchedFor (s (first fitted)) (t (second fitted)) (cell fitted .name) ≡ At (h .i .given .0 .0)
-  at-place = sym (told (h .before .before)) ∙ h .i .given .1
-
-judge-requires : tie.Need-judge-requires
-judge-requires c κs = search needs
-
-enum-known-first : tie.Need-enum-known-first
-enum-known-first c = search needs
-
-enum-told : tie.Need-enum-told
-enum-told c = search needs
+number-of-requires : tie.Need-number-of-requires
+number-of-requires c κs = search needs
 
 same-length : tie.Need-same-length
 same-length c = search needs
 
 returns : tie.Need-returns
 returns c =
-    let start = c .before .before .before .before .before .args in
-    refused _ _ _ 101
-    (entry-damaged (start .book .now) (start .tenant) (start .cell)
-    (judged-damaged (start .book .now) (start .tenant) (sym (c .before .before .judge .ensures) ∙ c .enum-told .given .1)))
-
-same-length-2 : tie.Need-same-length-2
-same-length-2 c = search needs
-
-returns-2 : tie.Need-returns-2
-returns-2 c =
-    let e = c .before in
-    refused _ _ _ 102 (entry-outside (s e) (start e .args .tenant) (start e .args .cell) (undamaged e) (tenant-not _ (c .if1 .taken)))
-
-is-held-requires : tie.Need-is-held-requires
-is-held-requires c κs = search needs
-
-same-length-3 : tie.Need-same-length-3
-same-length-3 c = search needs
-
-returns-3 : tie.Need-returns-3
-returns-3 c =
-    let e = c .before .before in
-    refused _ _ _ 103
-    (entry-unfit (s (e .before)) (t e) (start (e .before) .args .cell) (undamaged (e .before)) (tenant-is _ (tenant e))
-    (sym (c .before .is-held .ensures) ∙ not-true _ (c .if2 .taken)))
-
-find-requires : tie.Need-find-requires
-find-requires c κs = search needs
-
-enum-known-i : tie.Need-enum-known-i
-enum-known-i c = search needs
-
-put-record-requires : tie.Need-put-record-requires
-put-record-requires c κs = search needs
-
-enum-known-i-2 : tie.Need-enum-known-i-2
-enum-known-i-2 c = search needs
-
-sub-enter-new : tie.Need-sub-enter-new
-sub-enter-new c = let d = c .before .before .before .before .before .before in omega (arith, own-count (first d))
-
-enter-new-requires : tie.Need-enter-new-requires
-enter-new-requires c κs =
-    let i = c .before .before in
-    let f = i .before .before in
-    let d = f .before .before in
-    (undamaged (first d), ((tenant (second d), fit d), (sym (told f) ∙ i .i2 .given .1, omega (arith, own-count (first d)))))
-
-same-length-4 : tie.Need-same-length-4
-same-length-4 c = search needs
-
-returns-4 : tie.Need-returns-4
-returns-4 c =
-    let put = c .before .before in
-    let i = put .before .before .before in
-    let d = i .before .before .before .before in
-    let does =
-    entered-held (s (first d)) (undamaged (first d)) (t (second d)) (tenant (second d)) (cell d) (fit d) (i .i .given .0 .0) (at-place i) in
-    (does .0, put .put-record .ensures ∙ does .1)
-
-same-length-5 : tie.Need-same-length-5
-same-length-5 c = search needs
-
-returns-5 : tie.Need-returns-5
-returns-5 c = c .before .before .enter-new .ensures
+    let house = c .before .before .before in
+    let start = house .before .before .before .args in (
+      c .number-of .ensures ∙ ap movedNumber (house .enter .ensures .0) ∙ same-number (start .tenant) (start .book .now) (entry (start .book .now) (start .tenant) (start .cell)),
+      house .enter .ensures .1,
+    )
 
 pub enter-spec : {M : Type 1} → statement M
-enter-spec =
-    tie.close
-    (tie.spec
-    judge-requires
-    enum-known-first
-    enum-told
-    same-length
-    returns
-    same-length-2
-    returns-2
-    is-held-requires
-    same-length-3
-    returns-3
-    find-requires
-    enum-known-i
-    put-record-requires
-    enum-known-i-2
-    sub-enter-new
-    enter-new-requires
-    same-length-4
-    returns-4
-    same-length-5
-    returns-5)
+enter-spec = tie.close (tie.spec enter-requires number-of-requires same-length returns)

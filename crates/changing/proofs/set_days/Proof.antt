@@ -8,6 +8,7 @@ use native.Mathlib.Omega.{arith}
 use borrow.Author.Needs.{needs}
 use borrow.Author.Tests.{not-true, not-false}
 use Rattle.dates.specs.Notice.{isDays}
+use Rattle.tenants.specs.Rules.{changeNumber}
 use Rattle.tenants.proofs.Ranges.{tenant-is, tenant-not, days-below}
 use Rattle.layout.specs.Layout.{isBook}
 use Rattle.layout.proofs.Frame.{book-frame}
@@ -57,7 +58,7 @@ same-length c = search needs
 returns : tie.Need-returns
 returns c =
     let start = c .before .before .before .before .args in
-    refused _ _ _ 101
+    refused changeNumber _ _ _ 101
     (days-damaged (start .book .now) (start .tenant) (start .days) (sym (c .before .is-book .ensures) ∙ not-true _ (c .if1 .taken)))
 
 same-length-2 : tie.Need-same-length-2
@@ -66,7 +67,7 @@ same-length-2 c = search needs
 returns-2 : tie.Need-returns-2
 returns-2 c =
     let e = c .before in
-    refused _ _ _ 102 (days-outside (s e) (start e .args .tenant) (start e .args .days) (undamaged e) (tenant-not _ (c .if2 .taken)))
+    refused changeNumber _ _ _ 102 (days-outside (s e) (start e .args .tenant) (start e .args .days) (undamaged e) (tenant-not _ (c .if2 .taken)))
 
 is-days-requires : tie.Need-is-days-requires
 is-days-requires c κs = search needs
@@ -77,7 +78,7 @@ same-length-3 c = search needs
 returns-3 : tie.Need-returns-3
 returns-3 c =
     let e = c .before .before in
-    refused _ _ _ 103
+    refused changeNumber _ _ _ 103
     (days-unfit (s (e .before)) (t e) (start (e .before) .args .days) (undamaged (e .before)) (tenant-is _ (tenant e))
     (sym (c .before .is-days .ensures) ∙ not-true _ (c .if3 .taken)))
 

@@ -1,169 +1,29 @@
--- `changing::withdraw` meets its contract: each refusal in its order, then the record is taken out.
+-- `changing::withdraw` meets its contract: what the house is answered, with the number alone.
 -- Assumes nothing.
-use mathlib.Core.Path.{_≡_, sym, _∙_}
-use mathlib.Core.Bool.{true}
-use mathlib.Core.List.{List}
-use Prim.Native.Nat.{ℕ, _≤_}
+use mathlib.Core.Path.{ap, _∙_}
 use borrow.Author.Needs.{needs}
-use borrow.Author.Tests.{not-true, not-false}
-use Rattle.forms.specs.Identifiers.{isCellName}
-use Rattle.tenants.proofs.Ranges.{tenant-is, tenant-not}
-use Rattle.layout.specs.Layout.{isBook}
-use Rattle.judging.specs.Starts.{judged}
-use Rattle.judging.specs.declared.Judged.the-variants.{Records}
-use Rattle.judging.proofs.Judgements.{judged-says, judged-damaged}
-use Rattle.records.specs.declared.finding.Found.the-variants.{At}
-use Rattle.records.specs.Finding.{searchedFor}
-use Rattle.records.proofs.OwnFound.{searches-own}
-use Rattle.changing.proofs.ChangeRules.{refused, withdrawal-damaged, withdrawal-outside, withdrawal-unfit}
-use Rattle.changing.proofs.Done.{withdrawn-held, not-held}
+use Rattle.changing.specs.Changing.{withdrawal}
+use Rattle.changing.specs.House.{movedNumber}
+use Rattle.changing.proofs.Numbers.{same-number}
 use Rattle.changing.proofs.withdraw.Statement.{statement}
 use Rattle.changing.proofs.withdraw.Tie as tie
 
--- what is known once the book is found undamaged, and the tenant is one
-module _ (e : tie.After-known-told) where
-  abbrev start : tie.Start
-  start = e .before .before .before .before .before .before
+withdraw-requires : tie.Need-withdraw-requires
+withdraw-requires c κs = search needs
 
-  abbrev s : List ℕ
-  s = start .args .book .now
-
-  judged-so : judged s (start .args .tenant) ≡ Records (e .before .first .given .0 .0) (e .before .first .given .0 .1 .0)
-  judged-so = sym (e .before .before .before .judge .ensures) ∙ e .before .first .given .1
-
-  undamaged : isBook s ≡ true
-  undamaged = judged-says s (start .args .tenant) _ _ judged-so .0
-
-module _ (e : tie.Else1) where
-  abbrev t : ℕ
-  t = start (e .before) .args .tenant
-
-  tenant : t ≤ 15
-  tenant = e .if1 .left
-
--- and once the name is found fit
-module _ (e : tie.Else2) where
-  abbrev second : tie.Else1
-  second = e .before .before
-
-  abbrev first : tie.After-known-told
-  first = second .before
-
-  abbrev name : ℕ
-  name = start first .args .name
-
-  fit : isCellName name ≡ true
-  fit = sym (e .before .is-cell-name .ensures) ∙ not-false _ (e .if2 .left)
-
--- what the search finds is what it finds among the tenant's own
-told : (f : tie.After-find)
-    → let d = f .before .before in f .find .result ≡ searchedFor (s (first d)) (t (second d)) (name d)
-told f =
-    let d = f .before .before in
-    f .find .ensures ∙ searches-own (s (first d)) (t (second d)) (name d) _ _ (judged-so (first d))
-
--- it is held at this place
-module _ (h : tie.After-i) where
-  abbrev fitted : tie.Else2
-  fitted = h .before .before .before .before
-
-  at-place : searchedFor (s (first fitted)) (t (second fitted)) (name fitted) ≡ At (h .i .given .0 .0)
-  at-place = sym (told (h .before .before)) ∙ h .i .given .1
-
-judge-requires : tie.Need-judge-requires
-judge-requires c κs = search needs
-
-enum-known-first : tie.Need-enum-known-first
-enum-known-first c = search needs
-
-enum-told : tie.Need-enum-told
-enum-told c = search needs
+number-of-requires : tie.Need-number-of-requires
+number-of-requires c κs = search needs
 
 same-length : tie.Need-same-length
 same-length c = search needs
 
 returns : tie.Need-returns
 returns c =
-    let start = c .before .before .before .before .before .args in
-    refused _ _ _ 101
-    (withdrawal-damaged (start .book .now) (start .tenant) (start .name)
-    (judged-damaged (start .book .now) (start .tenant) (sym (c .before .before .judge .ensures) ∙ c .enum-told .given .1)))
-
-same-length-2 : tie.Need-same-length-2
-same-length-2 c = search needs
-
-returns-2 : tie.Need-returns-2
-returns-2 c =
-    let e = c .before in
-    refused _ _ _ 102 (withdrawal-outside (s e) (start e .args .tenant) (start e .args .name) (undamaged e) (tenant-not _ (c .if1 .taken)))
-
-is-cell-name-requires : tie.Need-is-cell-name-requires
-is-cell-name-requires c κs = search needs
-
-same-length-3 : tie.Need-same-length-3
-same-length-3 c = search needs
-
-returns-3 : tie.Need-returns-3
-returns-3 c =
-    let e = c .before .before in
-    refused _ _ _ 103
-    (withdrawal-unfit (s (e .before)) (t e) (start (e .before) .args .name) (undamaged (e .before)) (tenant-is _ (tenant e))
-    (sym (c .before .is-cell-name .ensures) ∙ not-true _ (c .if2 .taken)))
-
-find-requires : tie.Need-find-requires
-find-requires c κs = search needs
-
-enum-known-i : tie.Need-enum-known-i
-enum-known-i c = search needs
-
-enum-told-2 : tie.Need-enum-told-2
-enum-told-2 c = search needs
-
-same-length-4 : tie.Need-same-length-4
-same-length-4 c = search needs
-
-returns-4 : tie.Need-returns-4
-returns-4 c =
-    let f = c .before .before in
-    let d = f .before .before in
-    not-held (s (first d)) (undamaged (first d)) (t (second d)) (tenant (second d)) (name d) (fit d) (c .enum-told2 .given .0 .0)
-    (sym (told f) ∙ c .enum-told2 .given .1)
-
-remove-record-requires : tie.Need-remove-record-requires
-remove-record-requires c κs = search needs
-
-same-length-5 : tie.Need-same-length-5
-same-length-5 c = search needs
-
-returns-5 : tie.Need-returns-5
-returns-5 c =
-    let removed = c .before .before in
-    let h = removed .before .before .before in
-    let d = h .before .before .before .before in
-    let i = h .i .given .0 .0 in
-    let does =
-    withdrawn-held (s (first d)) (undamaged (first d)) (t (second d)) (tenant (second d)) (name d) (fit d) i (at-place h) in
-    (does .0, removed .remove-record .ensures ∙ does .1)
+    let house = c .before .before .before in
+    let start = house .before .before .before .args in (
+      c .number-of .ensures ∙ ap movedNumber (house .withdraw .ensures .0) ∙ same-number (start .tenant) (start .book .now) (withdrawal (start .book .now) (start .tenant) (start .name)),
+      house .withdraw .ensures .1,
+    )
 
 pub withdraw-spec : {M : Type 1} → statement M
-withdraw-spec =
-    tie.close
-    (tie.spec
-    judge-requires
-    enum-known-first
-    enum-told
-    same-length
-    returns
-    same-length-2
-    returns-2
-    is-cell-name-requires
-    same-length-3
-    returns-3
-    find-requires
-    enum-known-i
-    enum-told-2
-    same-length-4
-    returns-4
-    remove-record-requires
-    same-length-5
-    returns-5)
+withdraw-spec = tie.close (tie.spec withdraw-requires number-of-requires same-length returns)

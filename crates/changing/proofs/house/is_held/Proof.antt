@@ -1,4 +1,4 @@
--- `changing::is_held` meets its contract. A value that does not fit refuses the cell.
+-- `changing::house::is_held` meets its contract. A value that does not fit refuses the cell.
 -- Assumes nothing.
 use mathlib.Core.Path.{_≡_, sym, _∙_}
 use Prim.Native.Nat.{ℕ}
@@ -6,8 +6,8 @@ use native.Mathlib.Omega.{arith}
 use borrow.Author.Needs.{needs}
 use borrow.Author.Tests.{not-true, not-false}
 use Rattle.tenants.proofs.Ranges.{not-fit, by-second-key}
-use Rattle.changing.proofs.is_held.Statement.{statement}
-use Rattle.changing.proofs.is_held.Tie as tie
+use Rattle.changing.proofs.house.is_held.Statement.{statement}
+use Rattle.changing.proofs.house.is_held.Tie as tie
 
 is-cell-name-requires : tie.Need-is-cell-name-requires
 is-cell-name-requires c κs = search needs

@@ -1,0 +1,105 @@
+// Enter and withdraw as the house has them: the tenant's answer, and how many records moved. That goes by other tenants' records, so it is for the
+// operator alone.
+ghost use mathlib.Core.Path.{_≡_};
+ghost use mathlib.Core.Bool.{true};
+ghost use Prim.Native.Nat.{_≤_};
+ghost use lib.ListN.{length};
+ghost use Rattle.tenants.specs.Rules.{isHeld};
+ghost use Rattle.layout.specs.Layout.{isBook, ownIn};
+ghost use Rattle.records.specs.Finding.{searchedFor};
+ghost use Rattle.records.specs.declared.finding.Found.the-variants.{Absent};
+ghost use Rattle.changing.specs.Changing.{entry, withdrawal, bytesAfter};
+ghost use Rattle.changing.specs.House.{houseAnswer};
+use judging::Judged;
+use records::finding::Found;
+use tenants::Held;
+
+// What the house is answered: done, with so many records moved, or the tenant's refusal.
+pub enum Moved {
+    Done(u32),
+    Refused(u32),
+}
+
+// Whether a cell's name, edition and keys are in their ranges and alphabets.
+fn is_held(cell: Held) -> bool
+    ensures { λ r. ⌜ r ≡ isHeld cell ⌝ }
+{
+    if !forms::identifiers::is_cell_name(cell.name) {
+        return false;
+    }
+    if cell.edition < 1 {
+        return false;
+    }
+    if 999 < cell.edition {
+        return false;
+    }
+    if 0xFF_FFFF_FFFF < cell.key1 {
+        return false;
+    }
+    cell.key2 <= 0xFF_FFFF_FFFF
+}
+
+// Enters a cell with a new name, which would go to place i: the quota of its tenant, which holds so many cells, decides.
+fn enter_new(book: &mut [u8], i: u32, held: u32, tenant: u32, cell: Held) -> Moved
+    requires { ⌜ isBook (now book) ≡ true ⌝ }
+    requires { ⌜ (tenant ≤ 15) × (isHeld cell ≡ true) ⌝ }
+    requires { ⌜ searchedFor (now book) tenant (cell .name) ≡ Absent i ⌝ }
+    requires { ⌜ held ≡ length (ownIn (now book) tenant .cells) ⌝ }
+    ensures { λ r. ⌜ (r ≡ houseAnswer tenant (now (book .entry)) (entry (now (book .entry)) tenant cell))
+        × (now (book .exit) ≡ bytesAfter tenant (entry (now (book .entry)) tenant cell) (now (book .entry))) ⌝ }
+{
+    let quota = layout::setting_of(book, tenant).quota;
+    if held < quota {
+        records::moving::insert_record(book, i, tenant, cell);
+        let has = layout::count(book) as u32;
+        let after = has - 1 - i;
+        return Moved::Done(after);
+    }
+    Moved::Refused(105)
+}
+
+// Enters a cell: a held name is replaced.
+pub fn enter(book: &mut [u8], tenant: u32, cell: Held) -> Moved
+    ensures { λ r. ⌜ (r ≡ houseAnswer tenant (now (book .entry)) (entry (now (book .entry)) tenant cell))
+        × (now (book .exit) ≡ bytesAfter tenant (entry (now (book .entry)) tenant cell) (now (book .entry))) ⌝ }
+{
+    let Judged::Records { first, past } = judging::judge(book, tenant) else {
+        return Moved::Refused(101);
+    };
+    if 15 < tenant {
+        return Moved::Refused(102);
+    }
+    if !is_held(cell) {
+        return Moved::Refused(103);
+    }
+    match records::finding::find(book, first, past, cell.name) {
+        Found::At(i) => {
+            records::moving::put_record(book, i, tenant, cell);
+            Moved::Done(0)
+        }
+        Found::Absent(i) => enter_new(book, i, past - first, tenant, cell),
+    }
+}
+
+// Withdraws a cell.
+pub fn withdraw(book: &mut [u8], tenant: u32, name: u64) -> Moved
+    ensures { λ r. ⌜ (r ≡ houseAnswer tenant (now (book .entry)) (withdrawal (now (book .entry)) tenant name))
+        × (now (book .exit) ≡ bytesAfter tenant (withdrawal (now (book .entry)) tenant name) (now (book .entry))) ⌝ }
+{
+    let Judged::Records { first, past } = judging::judge(book, tenant) else {
+        return Moved::Refused(101);
+    };
+    if 15 < tenant {
+        return Moved::Refused(102);
+    }
+    if !forms::identifiers::is_cell_name(name) {
+        return Moved::Refused(103);
+    }
+    let Found::At(i) = records::finding::find(book, first, past, name) else {
+        return Moved::Refused(104);
+    };
+    let had = layout::count(book) as u32;
+    let after = had - 1 - i;
+    records::moving::remove_record(book, i);
+    Moved::Done(after)
+}
