@@ -90,11 +90,11 @@ module _ (s : List ℕ) (t : ℕ) (call : Call) (undamaged : isBook s ≡ true) 
 
 -- entering
 module _ (s : List ℕ) (t : ℕ) (cell : Held) (done : changeNumber (entry s t cell) ≡ 0) where
-  entered-passed : (isBook s ≡ true) × (changeNumber (entering t cell (ownIn s t)) ≡ 0)
+  pub entered-passed : (isBook s ≡ true) × (changeNumber (entering t cell (ownIn s t)) ≡ 0)
   unfolding entry
   entered-passed = not-refused (isBook s) 101 (entering t cell (ownIn s t)) (λ e. omega arith) done
 
-  entered-so : (isTenant t ≡ true) × ((isHeld cell ≡ true) × (entering t cell (ownIn s t) ≡ enters cell))
+  pub entered-so : (isTenant t ≡ true) × ((isHeld cell ≡ true) × (entering t cell (ownIn s t) ≡ enters cell))
   unfolding entering
   entered-so =
       let one = not-refused (isTenant t) 102 _ (λ e. omega arith) (entered-passed .1) in
@@ -119,11 +119,11 @@ enter-done s t cell done =
 
 -- withdrawing
 module _ (s : List ℕ) (t name : ℕ) (done : changeNumber (withdrawal s t name) ≡ 0) where
-  withdrawn-passed : (isBook s ≡ true) × (changeNumber (withdrawing t name (ownIn s t)) ≡ 0)
+  pub withdrawn-passed : (isBook s ≡ true) × (changeNumber (withdrawing t name (ownIn s t)) ≡ 0)
   unfolding withdrawal
   withdrawn-passed = not-refused (isBook s) 101 (withdrawing t name (ownIn s t)) (λ e. omega arith) done
 
-  withdrawn-so : (isTenant t ≡ true) × ((isCellName name ≡ true) × (withdrawing t name (ownIn s t) ≡ withdraws name))
+  pub withdrawn-so : (isTenant t ≡ true) × ((isCellName name ≡ true) × (withdrawing t name (ownIn s t) ≡ withdraws name))
   unfolding withdrawing
   withdrawn-so =
       let one = not-refused (isTenant t) 102 _ (λ e. omega arith) (withdrawn-passed .1) in

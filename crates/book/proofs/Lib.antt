@@ -6,5 +6,6 @@ pub mod FirstCell
 pub mod Issues
 pub mod DoneCalls
 pub mod Producers
+pub mod House
 pub mod EitherCases
 pub mod IssuedCapitals

@@ -51,7 +51,7 @@ any-same : {any : Bool} → _≡_ {A = Holding} (of-producer.Any any) (of-produc
 any-same e = cc
 
 -- who is told an edition holds the cell
-told-held : (held : Option Held) (e : ℕ) → editionOf held ≡ asked.Edition e → (c : Held) × (held ≡ some c)
+pub told-held : (held : Option Held) (e : ℕ) → editionOf held ≡ asked.Edition e → (c : Held) × (held ≡ some c)
 told-held none e told = absurd (never-edition told)
 told-held (some c) e told = (c, refl)
 
@@ -83,7 +83,7 @@ module _ (s : List ℕ) (t : ℕ) where
 
   -- and where asking gives an edition the answer for its producer is yes
   module _ (name e : ℕ) (told : editionIn s t name ≡ asked.Edition e) where
-    edition-passed : (isBook s ≡ true) × (isTenant t ≡ true) × (isCellName name ≡ true) × (editionOf (cellOf name (ownIn s t .cells)) ≡ asked.Edition e)
+    pub edition-passed : (isBook s ≡ true) × (isTenant t ≡ true) × (isCellName name ≡ true) × (editionOf (cellOf name (ownIn s t .cells)) ≡ asked.Edition e)
     unfolding editionIn asking
     edition-passed =
         let isTold : Asked → Type 0 = λ (a : Asked). a ≡ asked.Edition e in

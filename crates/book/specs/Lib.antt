@@ -3,5 +3,6 @@ pub mod Mixed
 pub mod Kept
 pub mod DoneCalls
 pub mod Producers
+pub mod House
 pub mod Quotas
 pub mod EitherCase
