@@ -164,43 +164,57 @@ static bool make_room(uint8_t *book, const parts *found, uint32_t tenant, uint8_
     return true;
 }
 
-uint32_t plain_enter(uint8_t *book, size_t book_length, uint32_t tenant, uint64_t name, uint32_t edition, uint64_t key_one, uint64_t key_two)
+lambukir_moved plain_house_enter(uint8_t *book, size_t book_length, uint32_t tenant, uint64_t name, uint32_t edition, uint64_t key_one, uint64_t key_two)
 {
     parts found;
+    lambukir_moved answer = {0};
     if (!is_book(book, book_length, &found))
-        return 101;
+        return (lambukir_moved){.number = 101};
     if (tenant >= TENANTS)
-        return 102;
+        return (lambukir_moved){.number = 102};
     if (!is_cell_name(name) || edition - 1 >= 999 || (key_one | key_two) >> 40 != 0)
-        return 103;
+        return (lambukir_moved){.number = 103};
     uint8_t *r = book + (place_of(&found, tenant, name) - book);
-    if (!is_held(&found, r, tenant, name) && !make_room(book, &found, tenant, r))
-        return 105;
+    if (!is_held(&found, r, tenant, name)) {
+        answer.moved = (uint32_t)(found.starts[TENANTS] - r) / RECORD_SIZE;
+        if (!make_room(book, &found, tenant, r))
+            return (lambukir_moved){.number = 105};
+    }
     r[0] = (uint8_t)tenant;
     write_first(r + 1, 8, name);
     write_first(r + 9, 2, (uint64_t)edition << 48);
     write_first(r + 11, 5, key_one << 24);
     write_first(r + 16, 8, key_two << 24);
-    return 0;
+    return answer;
 }
 
-uint32_t plain_withdraw(uint8_t *book, size_t book_length, uint32_t tenant, uint64_t name)
+uint32_t plain_enter(uint8_t *book, size_t book_length, uint32_t tenant, uint64_t name, uint32_t edition, uint64_t key_one, uint64_t key_two)
+{
+    return plain_house_enter(book, book_length, tenant, name, edition, key_one, key_two).number;
+}
+
+lambukir_moved plain_house_withdraw(uint8_t *book, size_t book_length, uint32_t tenant, uint64_t name)
 {
     parts found;
     if (!is_book(book, book_length, &found))
-        return 101;
+        return (lambukir_moved){.number = 101};
     if (tenant >= TENANTS)
-        return 102;
+        return (lambukir_moved){.number = 102};
     if (!is_cell_name(name))
-        return 103;
+        return (lambukir_moved){.number = 103};
     uint8_t *r = book + (place_of(&found, tenant, name) - book);
     if (!is_held(&found, r, tenant, name))
-        return 104;
+        return (lambukir_moved){.number = 104};
     uint32_t used = read32(book + 1) - RECORD_SIZE;
     memmove(r, r + RECORD_SIZE, (size_t)(book + used - r));
     memset(book + used, 0, RECORD_SIZE);
     write32(book + 1, used);
-    return 0;
+    return (lambukir_moved){.moved = (uint32_t)(book + used - r) / RECORD_SIZE};
+}
+
+uint32_t plain_withdraw(uint8_t *book, size_t book_length, uint32_t tenant, uint64_t name)
+{
+    return plain_house_withdraw(book, book_length, tenant, name).number;
 }
 
 uint32_t plain_set_days(uint8_t *book, size_t book_length, uint32_t tenant, uint32_t days)

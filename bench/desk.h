@@ -12,7 +12,7 @@
 static uint8_t full_book[LAMBUKIR_BOOK_SIZE], one_tenants[LAMBUKIR_BOOK_SIZE], our_book[LAMBUKIR_BOOK_SIZE], their_book[LAMBUKIR_BOOK_SIZE];
 static uint64_t held[TENANTS][QUOTA], absent[SAMPLES];
 
-/* Books, the cells that are in them, and cells that are not. False where both sides do not fill a book alike, to its last record. */
+/* Books, the cells that are in them, and cells that are not. False where both sides do not fill a book alike, to its last record, or do not withdraw alike. */
 static bool make_books(void)
 {
     static const uint8_t servers[] = "NODEA2A3A4A5A6A7A8A9B0B1B2B3B4B5";
@@ -35,11 +35,10 @@ static bool make_books(void)
     for (size_t i = 0; i < SAMPLES; i++)
         absent[i] = some_name();
     memcpy(our_book, full_book, sizeof our_book);
-    sum += lambukir_withdraw(our_book, sizeof our_book, ROOMY, held[ROOMY][0]);
     if (memcmp(full_book, their_book, sizeof full_book) != 0 || full_book[LAMBUKIR_BOOK_SIZE - 24] != TENANTS - 1)
         return false;
-    memcpy(their_book, our_book, sizeof their_book);
-    return true;
+    uint32_t moved = lambukir_house_withdraw(our_book, sizeof our_book, ROOMY, held[ROOMY][0]).moved;
+    return plain_house_withdraw(their_book, sizeof their_book, ROOMY, held[ROOMY][0]).moved == moved && memcmp(our_book, their_book, sizeof our_book) == 0;
 }
 
 #define FULL full_book, sizeof full_book
@@ -65,6 +64,22 @@ static void their_enter(int calls)
     for (int i = 0; i < calls; i++) {
         sum += plain_enter(their_book, sizeof their_book, ROOMY, absent[NTH], 1, 2, 3);
         sum += plain_withdraw(their_book, sizeof their_book, ROOMY, absent[NTH]);
+    }
+}
+
+static void our_house(int calls)
+{
+    for (int i = 0; i < calls; i++) {
+        sum += lambukir_house_enter(our_book, sizeof our_book, ROOMY, absent[NTH], 1, 2, 3).moved;
+        sum += lambukir_house_withdraw(our_book, sizeof our_book, ROOMY, absent[NTH]).moved;
+    }
+}
+
+static void their_house(int calls)
+{
+    for (int i = 0; i < calls; i++) {
+        sum += plain_house_enter(their_book, sizeof their_book, ROOMY, absent[NTH], 1, 2, 3).moved;
+        sum += plain_house_withdraw(their_book, sizeof their_book, ROOMY, absent[NTH]).moved;
     }
 }
 

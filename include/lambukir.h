@@ -127,9 +127,9 @@
 /* The version of this header: as text, and as a number, 10000 for the first of
    its three, 100 for the second and 1 for the third. While the first is 0, a
    new second number may change the interface, and the shared library's name
-   changes with it (liblambukir.so.0.9). */
-#define LAMBUKIR_VERSION "0.9.0"
-#define LAMBUKIR_VERSION_NUMBER 900
+   changes with it (liblambukir.so.0.10). */
+#define LAMBUKIR_VERSION "0.10.0"
+#define LAMBUKIR_VERSION_NUMBER 1000
 
 /* The numbers that come back
 
@@ -525,7 +525,7 @@ lambukir_product_standing(const uint8_t *list, size_t list_length,
    (LAMBUKIR_BOOK_SIZE) that the caller keeps, in memory and in a file; nothing
    else is kept anywhere. lambukir_open_book makes the first one, and from then
    on it is changed by lambukir_enter, lambukir_withdraw and lambukir_set_days
-   alone.
+   alone, or by the first two in the house's form (see "For the house alone").
 
    A tenant is a number from 0 to 15. It has
 
@@ -667,6 +667,36 @@ lambukir_line
 lambukir_check(const uint8_t *book, size_t book_length, uint32_t tenant,
                uint64_t hw_id, uint32_t today,
                const uint8_t *line, size_t line_length);
+
+/* For the house alone
+
+   The house is who keeps the book, and its operator may want to know how much
+   of it a change moved. These two do exactly what lambukir_enter and
+   lambukir_withdraw do: the same book to the last byte, the same number, and
+   the same refusals in the same order. Among calls that are mixed they count
+   as that tenant's own.
+
+   moved is how many records of the new book are later in order, by tenant and
+   then by name, than the cell that was entered or withdrawn. Those are the
+   records that now stand one further on, or one nearer to the start; every
+   other stands where it stood. It is 0 where a held name was replaced, and
+   after a refusal.
+
+   moved counts the cells of other tenants. No other answer about a book tells
+   anything of them: it is for the operator, and no tenant may be shown it. */
+typedef struct {
+  uint32_t moved;
+  uint32_t number;
+} lambukir_moved;
+
+lambukir_moved
+lambukir_house_enter(uint8_t *book, size_t book_length, uint32_t tenant,
+                     uint64_t name, uint32_t edition,
+                     uint64_t key_one, uint64_t key_two);
+
+lambukir_moved
+lambukir_house_withdraw(uint8_t *book, size_t book_length, uint32_t tenant,
+                        uint64_t name);
 
 /* The checksum and the cipher */
 

@@ -92,6 +92,14 @@ static void check(uint32_t agent, uint64_t hw_id, uint32_t today, const uint8_t 
     printf(" and %s\n", lambukir_key_to_hex(read.key_two).text);
 }
 
+/* Enters a cell as the house, for an agent. How many records moved goes by what all of them hold: it is for the operator alone. */
+static void house_enter(uint32_t agent, const char *cell, uint32_t edition, uint64_t key_one, uint64_t key_two)
+{
+    lambukir_moved done = lambukir_house_enter(book, sizeof book, agent, name_of(cell), edition, key_one, key_two);
+    printf("The house enters %s for %s, which moves %" PRIu32 " records: ", cell, agents[agent], done.moved);
+    tell(done.number);
+}
+
 int main(void)
 {
     const uint64_t hw_id = lambukir_hw_id_from_text("12348", 5);
@@ -128,5 +136,6 @@ int main(void)
     ask(HAMBURG, "NO4D0613"); /* which Oslo cannot touch */
     ask_producer(OSLO, "NO");
     ask_producer(HAMBURG, "NO");
+    house_enter(OSLO, "NO4D0614", 1, 0x2122232425, 0x262728292A); /* the records are Hamburg's, which come after Oslo's */
     return 0;
 }

@@ -58,7 +58,7 @@ static void start_sequence(int crowded)
 /* A call of a sequence, now and then spoilt. `issued` is the line that was issued last. */
 static call call_of_sequence(const uint32_t *tenants, const uint64_t *names, const ship_line *issued)
 {
-    static const int kinds[] = {ENTER,    ENTER,       ENTER,       ENTER,        ENTER,        WITHDRAW, WITHDRAW, WITHDRAW,
+    static const int kinds[] = {ENTER,    ENTER,       ENTER,       HOUSE_ENTER,  HOUSE_ENTER,  WITHDRAW, WITHDRAW, HOUSE_WITHDRAW,
                                 SET_DAYS, ASK_EDITION, ASK_EDITION, ASK_PRODUCER, ASK_PRODUCER, ISSUE,    ISSUE,    CHECK, CHECK};
     call c = some_call(PICK(kinds), tenants[random_below(4)], names[random_below(6)]);
     if (c.kind == CHECK && issued->length > 0 && random_below(2))
@@ -159,6 +159,7 @@ static void run_alone(size_t m)
     for (size_t i = 0; i < mixed[m].count; i++) {
         ABOUT("%s, call %zu of tenant %" PRIu32 " alone", kind_names[mixed[m].calls[i].kind], i, mixed[m].tenant);
         mixed[m].answers[i] = compare_call(copy, BOOK, &changed, &mixed[m].calls[i]);
+        mixed[m].answers[i].moved = 0; /* no tenant's answer: it depends on the others */
     }
     lists.tenants[mixed[m].tenant] = *own;
 }
@@ -177,6 +178,7 @@ static void run_mixed(int which, int mixing)
         const call *c = &mixed[m].calls[next[m]];
         ABOUT("sequence %d, mixing %d: %s, call %zu of tenant %" PRIu32, which, mixing, kind_names[c->kind], next[m], c->tenant);
         answer ours = run_ours(copy, BOOK, c);
+        ours.moved = 0;
         same_answer(&ours, &mixed[m].answers[next[m]++]);
     }
     ABOUT("sequence %d, mixing %d", which, mixing);
@@ -429,7 +431,7 @@ static void compare_reasons(int kind, unsigned reasons, size_t count)
 {
     uint32_t tenant = 2 * (uint32_t)random_below(TENANTS / 2) + !is_due(kind, reasons, 105);
     int absent = is_due(kind, reasons, 104) || is_due(kind, reasons, 105);
-    call c = some_call(kind, tenant, absent || (kind == ENTER && random_below(2)) ? absent_name(tenant) : held_name(tenant));
+    call c = some_call(kind, tenant, absent || (is_enter(kind) && random_below(2)) ? absent_name(tenant) : held_name(tenant));
     for (size_t i = count; i-- > 0;)
         if (reasons >> i & 1)
             spoil(&c, orders_of[kind][i]);
@@ -617,6 +619,74 @@ static void producers(void)
             few_producers(characters[i], characters[j]);
 }
 
+/* A call of the house that is done, and tells so many records moved: those that stand after the cell in the bytes of the new book. */
+static void compare_house(int kind, uint32_t tenant, uint64_t name, int replaces)
+{
+    call c = some_call(kind, tenant, name);
+    uint8_t own[9] = {(uint8_t)tenant};
+    uint32_t after = 0;
+    for (size_t i = 0; i < 8; i++)
+        own[1 + i] = (uint8_t)(name >> (56 - 8 * i));
+    answer ours = compare_call(book, BOOK, &lists, &c);
+    for (const uint8_t *r = book + RECORDS; r < book + RECORDS + record_count() * RECORD_SIZE; r += RECORD_SIZE)
+        after += memcmp(r, own, sizeof own) > 0;
+    expect(ours.number, 0);
+    same(ours.moved, replaces ? 0 : after, "%s: moved, by every record", about);
+}
+
+/* A name that is out and in again by the house, and is replaced. */
+static void out_and_in(uint32_t tenant, uint64_t name)
+{
+    ABOUT("%" PRIX64 " of tenant %" PRIu32 " in a book with %zu records", name, tenant, record_count());
+    compare_house(HOUSE_WITHDRAW, tenant, name, 0);
+    compare_house(HOUSE_ENTER, tenant, name, 0);
+    compare_house(HOUSE_ENTER, tenant, name, 1);
+}
+
+/* The first and the last name that there is, of a tenant that has room for one; then again, as it holds them. */
+static void at_the_ends(uint32_t tenant)
+{
+    static const char *const ends[] = {"00000000", "ZZZZZZZZ"};
+    for (size_t i = 0; i < COUNT(ends); i++) {
+        uint64_t name = number_from(ends[i]);
+        ABOUT("%s of tenant %" PRIu32 " in a book with %zu records", ends[i], tenant, record_count());
+        if (lists.tenants[tenant].held == lists.tenants[tenant].quota) {
+            expect(compare_kind(HOUSE_ENTER, tenant, absent_name(tenant)), 105);
+            compare_house(HOUSE_WITHDRAW, tenant, held_name(tenant), 0);
+        }
+        compare_house(HOUSE_ENTER, tenant, name, 0);
+        out_and_in(tenant, name);
+        expect(compare_kind(HOUSE_WITHDRAW, tenant, absent_name(tenant)), 104);
+        if (i == 1 || random_below(2))
+            compare_house(HOUSE_WITHDRAW, tenant, name, 0);
+    }
+}
+
+/* Each record of the book, and both ends of each tenant's. */
+static void every_place(void)
+{
+    for (uint32_t t = 0; t < TENANTS; t++) {
+        for (size_t n = 0; n < lists.tenants[t].held; n++)
+            out_and_in(t, lists.tenants[t].cells[n].name);
+        if (lists.tenants[t].quota > 0)
+            at_the_ends(t);
+    }
+}
+
+/* Empty, nearly empty, half-full and full books: of sixteen tenants that hold something like the same, and of some that hold much. */
+static void house(void)
+{
+    static const uint32_t filled[] = {0, 1, 2, 40, MOST / 2, MOST - 1, MOST};
+    for (size_t i = 0; i < COUNT(filled); i++) {
+        for (size_t t = 0; t < TENANTS; t++)
+            quotas[t] = MOST / TENANTS;
+        fill_book(filled[i]);
+        every_place();
+        some_book(filled[i], MOST);
+        every_place();
+    }
+}
+
 int main(int argc, char **argv)
 {
     static const subject subjects[] = {
@@ -632,6 +702,7 @@ int main(int argc, char **argv)
         {"book-issue", issue},
         {"book-quota", quota},
         {"book-producers", producers},
+        {"book-house", house},
     };
     seed_random();
     make_materials();

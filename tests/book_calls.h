@@ -19,13 +19,16 @@
 #define LINES 48
 #define NUMBERS 128
 
-enum { ENTER, WITHDRAW, SET_DAYS, ASK_EDITION, ASK_PRODUCER, ISSUE, CHECK, KINDS };
-static const char *const kind_names[KINDS] = {"enter", "withdraw", "set days", "ask edition", "ask producer", "issue", "check"};
+/* Those that change the book come first. Enter and withdraw have a form for the house. */
+enum { ENTER, WITHDRAW, HOUSE_ENTER, HOUSE_WITHDRAW, SET_DAYS, ASK_EDITION, ASK_PRODUCER, ISSUE, CHECK, KINDS };
+static const char *const kind_names[KINDS] = {"enter", "withdraw", "house enter", "house withdraw", "set days", "ask edition", "ask producer", "issue", "check"};
 
 /* The rules' order of refusals of each call, ended by 0. */
 static const uint32_t orders_of[KINDS][12] = {
     [ENTER] = {101, 102, 103, 105},
     [WITHDRAW] = {101, 102, 103, 104},
+    [HOUSE_ENTER] = {101, 102, 103, 105},
+    [HOUSE_WITHDRAW] = {101, 102, 103, 104},
     [SET_DAYS] = {101, 102, 103},
     [ASK_EDITION] = {101, 102, 103, 104},
     [ASK_PRODUCER] = {101, 102, 103},
@@ -45,7 +48,7 @@ typedef struct {
 
 /* All that a call answers; what its kind does not answer is 0. */
 typedef struct {
-    uint32_t number, edition, held;
+    uint32_t number, edition, held, moved;
     uint64_t length;
     lambukir_line line;
     uint8_t out[OUT_ROOM];
@@ -195,10 +198,15 @@ static inline call some_call(int kind, uint32_t tenant, uint64_t name)
 static const uint32_t no_tenants[] = {16, 17, 31, 32, 255, 256, 257, 271, 65536, 65541, 2147483648, 2147483651, 4294967295};
 static const uint32_t no_editions[] = {0, 1000, 1001, 1023, 1024, 9999, 65535, 65536, 65537, 66535, 2147483649, 4294967295};
 
+static inline int is_enter(int kind)
+{
+    return kind == ENTER || kind == HOUSE_ENTER;
+}
+
 /* Puts one of the call's values out of its range. */
 static inline void spoil_value(call *c)
 {
-    uint64_t which = random_below(c->kind == ENTER ? 4 : c->kind == ISSUE ? 3 : 1);
+    uint64_t which = random_below(is_enter(c->kind) ? 4 : c->kind == ISSUE ? 3 : 1);
     if (c->kind == SET_DAYS)
         c->days = PICK(no_days);
     else if (c->kind == ASK_PRODUCER)
@@ -277,11 +285,22 @@ static inline void our_check(const uint8_t *book, size_t length, const call *c, 
 static inline answer our_answer(uint8_t *book, size_t length, const call *c)
 {
     answer a = {0};
+    lambukir_moved m;
     lambukir_edition e;
     lambukir_held h;
     switch (c->kind) {
     case ENTER: a.number = lambukir_enter(book, length, c->tenant, c->name, c->edition, c->key_one, c->key_two); break;
     case WITHDRAW: a.number = lambukir_withdraw(book, length, c->tenant, c->name); break;
+    case HOUSE_ENTER:
+        m = lambukir_house_enter(book, length, c->tenant, c->name, c->edition, c->key_one, c->key_two);
+        a.number = m.number;
+        a.moved = m.moved;
+        break;
+    case HOUSE_WITHDRAW:
+        m = lambukir_house_withdraw(book, length, c->tenant, c->name);
+        a.number = m.number;
+        a.moved = m.moved;
+        break;
     case SET_DAYS: a.number = lambukir_set_days(book, length, c->tenant, c->days); break;
     case ASK_EDITION:
         e = lambukir_ask_edition(book, length, c->tenant, c->name);
@@ -303,12 +322,23 @@ static inline answer our_answer(uint8_t *book, size_t length, const call *c)
 static inline answer their_answer(model_book *b, const call *c)
 {
     answer a = {0};
+    lambukir_moved m;
     lambukir_edition e;
     lambukir_held h;
     lambukir_written w;
     switch (c->kind) {
     case ENTER: a.number = model_enter(b, c->tenant, c->name, c->edition, c->key_one, c->key_two); break;
     case WITHDRAW: a.number = model_withdraw(b, c->tenant, c->name); break;
+    case HOUSE_ENTER:
+        m = model_house_enter(b, c->tenant, c->name, c->edition, c->key_one, c->key_two);
+        a.number = m.number;
+        a.moved = m.moved;
+        break;
+    case HOUSE_WITHDRAW:
+        m = model_house_withdraw(b, c->tenant, c->name);
+        a.number = m.number;
+        a.moved = m.moved;
+        break;
     case SET_DAYS: a.number = model_set_days(b, c->tenant, c->days); break;
     case ASK_EDITION:
         e = model_ask_edition(b, c->tenant, c->name);
@@ -350,11 +380,12 @@ static inline void same_answer(const answer *ours, const answer *theirs)
     same(ours->number, theirs->number, "%s: number", about);
     same(ours->edition, theirs->edition, "%s: edition", about);
     same(ours->held, theirs->held, "%s: held", about);
+    same(ours->moved, theirs->moved, "%s: moved", about);
     same(ours->length, theirs->length, "%s: length of the written line", about);
     same((uint64_t)memcmp(ours->out, theirs->out, OUT_ROOM), 0, "%s: out", about);
     same_line(&ours->line, &theirs->line);
     if (is_refusal(ours->number))
-        same(ours->edition | ours->held | ours->length, 0, "%s: values of a refusal", about);
+        same(ours->edition | ours->held | ours->moved | ours->length, 0, "%s: values of a refusal", about);
 }
 
 /* Lends a copy of the book for one call of the library. What the call made of it comes back in its place. */

@@ -73,10 +73,9 @@ static inline void fill(uint32_t tenant, size_t count)
         model_enter(&lists, tenant, absent_name(tenant), 1 + (uint32_t)random_below(999), some_key(), some_key());
 }
 
-/* A book with so many records, and with quotas of a sum that allows them. */
-static inline void some_book(uint32_t records, uint32_t quotas_sum)
+/* A book with so many records, which its quotas allow. */
+static inline void fill_book(uint32_t records)
 {
-    some_quotas(quotas_sum);
     open_lists();
     for (; records > 0; records--) {
         uint32_t tenant = (uint32_t)random_below(TENANTS);
@@ -85,6 +84,13 @@ static inline void some_book(uint32_t records, uint32_t quotas_sum)
         fill(tenant, lists.tenants[tenant].held + 1);
     }
     model_bytes_of_book(&lists, book);
+}
+
+/* And with quotas of a sum that allows them. */
+static inline void some_book(uint32_t records, uint32_t quotas_sum)
+{
+    some_quotas(quotas_sum);
+    fill_book(records);
 }
 
 /* Of the book. */

@@ -54,7 +54,7 @@ static void fill(slice s[SLICES])
 #define LENT_TEXT (const char *)s[TEXT].bytes, s[TEXT].length
 
 /* Every function that takes a slice, each once; what one answers is told as one number. */
-#define CALLS 23
+#define CALLS 25
 
 static uint64_t call(int which, const slice s[SLICES])
 {
@@ -81,7 +81,9 @@ static uint64_t call(int which, const slice s[SLICES])
     case 19: return lambukir_hw_id_from_text(LENT_TEXT) | lambukir_code_from_text(LENT_TEXT);
     case 20: return lambukir_key_from_hex(LENT_TEXT);
     case 21: return lambukir_date_from_text(LENT_TEXT);
-    default: return lambukir_ask_producer(LENT(BOOK), 0, 0x4E4F).number;
+    case 22: return lambukir_ask_producer(LENT(BOOK), 0, 0x4E4F).number;
+    case 23: return lambukir_house_enter(WRITTEN(BOOK), 0, NAME + 1, 11, 3, 4).number;
+    default: return lambukir_house_withdraw(WRITTEN(BOOK), 0, NAME).number;
     }
 }
 

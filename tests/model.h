@@ -52,6 +52,8 @@ lambukir_edition model_ask_edition(const model_book *b, uint32_t tenant, uint64_
 lambukir_held model_ask_producer(const model_book *b, uint32_t tenant, uint32_t producer);
 lambukir_written model_issue(const model_book *b, const uint8_t *reg, size_t reg_length, uint32_t tenant, uint64_t name, uint32_t expiry,
                              uint32_t level, const uint8_t *permit, size_t permit_length, uint8_t *out, size_t out_length);
+lambukir_moved model_house_enter(model_book *b, uint32_t tenant, uint64_t name, uint32_t edition, uint64_t key_one, uint64_t key_two);
+lambukir_moved model_house_withdraw(model_book *b, uint32_t tenant, uint64_t name);
 lambukir_line model_check(const model_book *b, uint32_t tenant, uint64_t hw_id, uint32_t today, const uint8_t *line, size_t line_length);
 
 /* Permits with a right CRC over blocks of any kind, to make those that are refused for what is in a block. */

@@ -162,6 +162,33 @@ uint32_t model_withdraw(model_book *b, uint32_t tenant, uint64_t name)
     return 0;
 }
 
+/* How many cells of all tenants come after this one: all of later tenants, and of this one those with a later name. */
+static uint32_t cells_after(const model_book *b, uint32_t tenant, uint64_t name)
+{
+    uint32_t after = 0;
+    for (uint32_t t = tenant; t < MODEL_TENANTS; t++)
+        for (size_t c = 0; c < b->tenants[t].held; c++)
+            after += t > tenant || b->tenants[t].cells[c].name > name;
+    return after;
+}
+
+lambukir_moved model_house_enter(model_book *b, uint32_t tenant, uint64_t name, uint32_t edition, uint64_t key_one, uint64_t key_two)
+{
+    bool replaced = tenant < MODEL_TENANTS && held_cell(&b->tenants[tenant], name);
+    lambukir_moved answer = {.number = model_enter(b, tenant, name, edition, key_one, key_two)};
+    if (answer.number == 0 && !replaced)
+        answer.moved = cells_after(b, tenant, name);
+    return answer;
+}
+
+lambukir_moved model_house_withdraw(model_book *b, uint32_t tenant, uint64_t name)
+{
+    lambukir_moved answer = {.number = model_withdraw(b, tenant, name)};
+    if (answer.number == 0)
+        answer.moved = cells_after(b, tenant, name);
+    return answer;
+}
+
 uint32_t model_set_days(model_book *b, uint32_t tenant, uint32_t days)
 {
     if (tenant >= MODEL_TENANTS)

@@ -6,13 +6,15 @@ ghost use Rattle.forms.specs.Output as output;
 ghost use Rattle.tenants.specs.Rules.{changeNumber};
 ghost use Rattle.opening.specs.Opening.{opened};
 ghost use Rattle.changing.specs.Changing.{entry, withdrawal, newDays, bytesAfter};
+ghost use Rattle.changing.specs.House.{houseAnswer};
 ghost use Rattle.asking.specs.Asking.{editionIn, holdingIn, issuedFrom, checkedBy};
 ghost use Rattle.lambukir.specs.Permits.{lineRead, textWritten};
-ghost use Rattle.lambukir.specs.Books.{heldOf, editionAsked, heldAsked};
+ghost use Rattle.lambukir.specs.Books.{heldOf, editionAsked, heldAsked, recordsMoved};
 use super::permits::LineRead;
 use super::permits::TextWritten;
 use super::permits::line_read;
 use super::permits::text_written;
+use changing::house::Moved;
 use tenants::Asked;
 use tenants::Held;
 use tenants::Holding;
@@ -29,6 +31,23 @@ pub struct EditionAsked {
 pub struct HeldAsked {
     pub held: u32,
     pub number: u32,
+}
+
+// lambukir_moved of the header.
+#[repr(C)]
+pub struct RecordsMoved {
+    pub moved: u32,
+    pub number: u32,
+}
+
+// The house's answer in the form that C sees.
+fn records_moved(answer: Moved) -> RecordsMoved
+    ensures { λ r. ⌜ r ≡ recordsMoved answer ⌝ }
+{
+    match answer {
+        Moved::Done(moved) => RecordsMoved { moved, number: 0 },
+        Moved::Refused(number) => RecordsMoved { moved: 0, number },
+    }
 }
 
 #[no_mangle]
@@ -74,6 +93,35 @@ pub extern "C" fn lambukir_set_days(book: &mut [u8], tenant: u32, days: u32) -> 
         × (now (book .exit) ≡ bytesAfter tenant (newDays (now (book .entry)) tenant days) (now (book .entry))) ⌝ }
 {
     changing::set_days(book, tenant, days)
+}
+
+#[no_mangle]
+pub extern "C" fn lambukir_house_enter(
+    book: &mut [u8],
+    tenant: u32,
+    name: u64,
+    edition: u32,
+    key1: u64,
+    key2: u64,
+) -> RecordsMoved
+    ensures { λ r. ⌜ (r ≡ recordsMoved (houseAnswer tenant (now (book .entry)) (entry (now (book .entry)) tenant (heldOf name edition key1 key2))))
+        × (now (book .exit) ≡ bytesAfter tenant (entry (now (book .entry)) tenant (heldOf name edition key1 key2)) (now (book .entry))) ⌝ }
+{
+    let cell = Held {
+        name,
+        edition,
+        key1,
+        key2,
+    };
+    records_moved(changing::house::enter(book, tenant, cell))
+}
+
+#[no_mangle]
+pub extern "C" fn lambukir_house_withdraw(book: &mut [u8], tenant: u32, name: u64) -> RecordsMoved
+    ensures { λ r. ⌜ (r ≡ recordsMoved (houseAnswer tenant (now (book .entry)) (withdrawal (now (book .entry)) tenant name)))
+        × (now (book .exit) ≡ bytesAfter tenant (withdrawal (now (book .entry)) tenant name) (now (book .entry))) ⌝ }
+{
+    records_moved(changing::house::withdraw(book, tenant, name))
 }
 
 #[no_mangle]
