@@ -281,26 +281,24 @@ static inline void our_check(const uint8_t *book, size_t length, const call *c, 
     same_kept(&l, "line");
 }
 
+/* What the house is answered. */
+static inline void tell_moved(answer *a, lambukir_moved m)
+{
+    a->number = m.number;
+    a->moved = m.moved;
+}
+
 /* The library's answer on a book that the caller has lent. */
 static inline answer our_answer(uint8_t *book, size_t length, const call *c)
 {
     answer a = {0};
-    lambukir_moved m;
     lambukir_edition e;
     lambukir_held h;
     switch (c->kind) {
     case ENTER: a.number = lambukir_enter(book, length, c->tenant, c->name, c->edition, c->key_one, c->key_two); break;
     case WITHDRAW: a.number = lambukir_withdraw(book, length, c->tenant, c->name); break;
-    case HOUSE_ENTER:
-        m = lambukir_house_enter(book, length, c->tenant, c->name, c->edition, c->key_one, c->key_two);
-        a.number = m.number;
-        a.moved = m.moved;
-        break;
-    case HOUSE_WITHDRAW:
-        m = lambukir_house_withdraw(book, length, c->tenant, c->name);
-        a.number = m.number;
-        a.moved = m.moved;
-        break;
+    case HOUSE_ENTER: tell_moved(&a, lambukir_house_enter(book, length, c->tenant, c->name, c->edition, c->key_one, c->key_two)); break;
+    case HOUSE_WITHDRAW: tell_moved(&a, lambukir_house_withdraw(book, length, c->tenant, c->name)); break;
     case SET_DAYS: a.number = lambukir_set_days(book, length, c->tenant, c->days); break;
     case ASK_EDITION:
         e = lambukir_ask_edition(book, length, c->tenant, c->name);
@@ -322,23 +320,14 @@ static inline answer our_answer(uint8_t *book, size_t length, const call *c)
 static inline answer their_answer(model_book *b, const call *c)
 {
     answer a = {0};
-    lambukir_moved m;
     lambukir_edition e;
     lambukir_held h;
     lambukir_written w;
     switch (c->kind) {
     case ENTER: a.number = model_enter(b, c->tenant, c->name, c->edition, c->key_one, c->key_two); break;
     case WITHDRAW: a.number = model_withdraw(b, c->tenant, c->name); break;
-    case HOUSE_ENTER:
-        m = model_house_enter(b, c->tenant, c->name, c->edition, c->key_one, c->key_two);
-        a.number = m.number;
-        a.moved = m.moved;
-        break;
-    case HOUSE_WITHDRAW:
-        m = model_house_withdraw(b, c->tenant, c->name);
-        a.number = m.number;
-        a.moved = m.moved;
-        break;
+    case HOUSE_ENTER: tell_moved(&a, model_house_enter(b, c->tenant, c->name, c->edition, c->key_one, c->key_two)); break;
+    case HOUSE_WITHDRAW: tell_moved(&a, model_house_withdraw(b, c->tenant, c->name)); break;
     case SET_DAYS: a.number = model_set_days(b, c->tenant, c->days); break;
     case ASK_EDITION:
         e = model_ask_edition(b, c->tenant, c->name);
