@@ -42,7 +42,8 @@ RefusedMovesNone =
 abbrev pub ReplacedMovesNone : Type 0
 ReplacedMovesNone = (s : List ℕ) (t : ℕ) (cell : Held) (e : ℕ) → editionIn s t (cell .name) ≡ Edition e → movedRecords (houseEnter s t cell) ≡ 0
 
--- two lists of records that are the same before a place, and so many records after it: at the place are some in the first, and others in the second
+-- two lists of records that differ at one place, where the old one has what is taken and the new one what is put; before and after it they are the
+-- same, and so many records stand after it
 pub record Moves (old new taken put : List BookRecord) (moved : ℕ) : Type 0 where
   pub before : List BookRecord
   pub after : List BookRecord
@@ -50,15 +51,14 @@ pub record Moves (old new taken put : List BookRecord) (moved : ℕ) : Type 0 wh
   pub new-is : new ≡ before ++ (put ++ after)
   pub moved-are : length after ≡ moved
 
--- a new name that is entered: what is told are the records after it, which all moved, and no other; and those are as many as the bytes of the new book
--- have that are later in order
+-- a new name is entered: the records after it moved, and no others, and so many are told; as many are later in order, by the bytes of the new book
 abbrev pub EnterMoves : Type 0
 EnterMoves =
     (s : List ℕ) (t : ℕ) (cell : Held) → movedNumber (houseEnter s t cell) ≡ 0 → editionIn s t (cell .name) ≡ Refused 104
     → Moves (bookOf s .records) (bookOf (bookAfter t (enter cell) s) .records) [] (inBook t cell ∷ []) (movedRecords (houseEnter s t cell))
     × (movedRecords (houseEnter s t cell) ≡ laterIn (bookOf (bookAfter t (enter cell) s)) t (cell .name))
 
--- a name that is withdrawn, likewise
+-- a name is withdrawn, likewise
 abbrev pub WithdrawMoves : Type 0
 WithdrawMoves =
     (s : List ℕ) (t name : ℕ) → movedNumber (houseWithdraw s t name) ≡ 0
