@@ -9,12 +9,11 @@ use native.Mathlib.Omega.{arith}
 use Rattle.bytes.specs.Every.{countOf}
 use Rattle.forms.proofs.Demands.{demanded}
 use Rattle.tenants.specs.declared.Held.{Held}
-use Rattle.tenants.specs.declared.Asked.{Asked}
 use Rattle.tenants.specs.declared.Asked.the-variants as asked
 use Rattle.tenants.specs.Cells.{cellOf}
-use Rattle.tenants.specs.Rules.{Change, enters, withdraws, refuses, changeNumber, isTenant, isHeld, isSome, editionOf, entering, withdrawing, asking}
+use Rattle.tenants.specs.Rules.{Change, enters, withdraws, refuses, changeNumber, isTenant, isHeld, isSome, editionOf, entering, asking}
 use Rattle.tenants.specs.Calls.{enter, withdraw, number}
-use Rattle.tenants.specs.Together.{Book, BookRecord, fullName, inBook, changed}
+use Rattle.tenants.specs.Together.{Book, fullName, inBook, changed}
 use Rattle.tenants.specs.House.{isLater, laterIn}
 use Rattle.tenants.proofs.Ranges.{name-below, held-below, held-fits}
 use Rattle.tenants.proofs.Allowed.{hasRoom, allowed}

@@ -98,6 +98,7 @@ pub fn withdraw(book: &mut [u8], tenant: u32, name: u64) -> Moved
     let Found::At(i) = records::finding::find(book, first, past, name) else {
         return Moved::Refused(104);
     };
+    // counted with it, as after entering
     let had = layout::count(book) as u32;
     let after = had - 1 - i;
     records::moving::remove_record(book, i);

@@ -1,15 +1,14 @@
 -- How many records are later in order than an entered or withdrawn cell, by its place.
 -- Assumes nothing.
-use mathlib.Core.Path.{_≡_, refl, ap, _∙_}
-use mathlib.Core.List.{List, _∷_, _++_}
-use Prim.Native.Nat.{ℕ}
+use mathlib.Core.Path.{refl, ap, _∙_}
+use mathlib.Core.List.{_∷_}
 use native.Mathlib.Omega.{arith}
 use lib.ListN.{length, length-append}
 use Rattle.bytes.specs.Every.{countOf}
-use Rattle.tenants.specs.Together.{BookRecord, fullName, inBook}
+use Rattle.tenants.specs.Together.{fullName, inBook}
 use Rattle.tenants.specs.House.{isLater}
 use Rattle.tenants.proofs.Later.{later-around, later-around-it}
-use Rattle.layout.specs.Layout.{recordCount, bookOf}
+use Rattle.layout.specs.Layout.{bookOf}
 use Rattle.layout.proofs.Indexed.{book-count}
 use Rattle.records.specs.Moves.{LaterEntered, LaterWithdrawn}
 use Rattle.records.proofs.Found.{Here, Gone}
