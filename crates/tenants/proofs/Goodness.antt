@@ -19,6 +19,8 @@ use Rattle.tenants.specs.Together.{
   noSetting,
   isSetting,
   areSettings,
+  isPrincipal,
+  arePrincipals,
   quotaSum,
   isRecord,
   areRecords,
@@ -36,14 +38,23 @@ EachRecord (r ∷ records) = (isRecord r ≡ true) × EachRecord records
 abbrev EachSetting : List Setting → Type 0
 EachSetting settings = (t : ℕ) → t < length settings → isSetting (getD settings t noSetting) ≡ true
 
--- no tenant from t on holds more than its quota; the settings are those of tenant t and the following
+-- what holds of each tenant from t on and its setting; the settings are those of tenant t and the following
+abbrev From : (ℕ → Setting → Type 0) → ℕ → List Setting → Type 0
+From P t settings = (i : ℕ) → i < length settings → P (t + i) (getD settings i noSetting)
+
+-- no tenant holds more than its quota
 abbrev pub Within : ℕ → List Setting → List BookRecord → Type 0
-Within t settings records = (i : ℕ) → i < length settings → length (cellsOf (t + i) records) ≤ getD settings i noSetting .quota
+Within t settings records = From (λ (u : ℕ) (s : Setting). length (cellsOf u records) ≤ s .quota) t settings
+
+-- each names a principal that it may, or none; all the settings are given too
+abbrev Named : List Setting → ℕ → List Setting → Type 0
+Named all t settings = From (λ (u : ℕ) (s : Setting). isPrincipal all u s ≡ true) t settings
 
 -- a good book
 pub record Good (b : Book) : Type 0 where
   pub sixteen : length (b .settings) ≡ 16
   pub each-setting : (t : ℕ) → t < 16 → isSetting (getD (b .settings) t noSetting) ≡ true
+  pub named : (t : ℕ) → t < 16 → isPrincipal (b .settings) t (getD (b .settings) t noSetting) ≡ true
   pub sum : quotaSum (b .settings) ≤ 512
   pub count : length (b .records) ≤ 512
   pub sorted : Sorted (b .records)
@@ -80,23 +91,34 @@ each-records [] each sorted = refl
 each-records (r ∷ records) each sorted =
     rw (each .0, above-starts (r .name) records (sorted .0), each-records records (each .1) (sorted .1))
 
+module _ (P : ℕ → Setting → Type 0) (t : ℕ) (s : Setting) (settings : List Setting) where
+  first-of : From P t (s ∷ settings) → P t s
+  first-of from = rw add-zero at (from 0 (omega arith))
+
+  rest-of : From P t (s ∷ settings) → From P (suc t) settings
+  rest-of from i h = rw (suc-add, ← add-suc) (from (suc i) (omega arith))
+
+  first-and-rest : P t s → From P (suc t) settings → From P t (s ∷ settings)
+  first-and-rest first rest zero h = rw add-zero first
+  first-and-rest first rest (suc i) h = rw (add-suc, ← suc-add) (rest i (omega arith))
+
 pub within-first : (t : ℕ) (s : Setting) (settings : List Setting) (records : List BookRecord) → Within t (s ∷ settings) records
     → length (cellsOf t records) ≤ s .quota
-within-first t s settings records within = rw add-zero at (within 0 (omega arith))
+within-first t s settings records = first-of (λ (u : ℕ) (s : Setting). length (cellsOf u records) ≤ s .quota) t s settings
 
 pub within-rest : (t : ℕ) (s : Setting) (settings : List Setting) (records : List BookRecord) → Within t (s ∷ settings) records
     → Within (suc t) settings records
-within-rest t s settings records within i h = rw (suc-add, ← add-suc) (within (suc i) (omega arith))
+within-rest t s settings records = rest-of (λ (u : ℕ) (s : Setting). length (cellsOf u records) ≤ s .quota) t s settings
 
 quotas-within : (t : ℕ) (settings : List Setting) (records : List BookRecord) → withinQuotas t settings records ≡ true → Within t settings records
 unfolding withinQuotas
-quotas-within t [] records are i h = absurd (omega arith)
-quotas-within t (s ∷ settings) records are zero h =
-    rw add-zero (leb-true (length (cellsOf t records)) (s .quota)
-    (and-first (leb (length (cellsOf t records)) (s .quota)) (withinQuotas (suc t) settings records) are))
-quotas-within t (s ∷ settings) records are (suc i) h =
-    rw (add-suc, ← suc-add) (quotas-within (suc t) settings records
-    (and-second (leb (length (cellsOf t records)) (s .quota)) (withinQuotas (suc t) settings records) are) i (omega arith))
+quotas-within t [] records are = λ i h. absurd (omega arith)
+quotas-within t (s ∷ settings) records are =
+    let first : Bool = leb (length (cellsOf t records)) (s .quota) in
+    let rest : Bool = withinQuotas (suc t) settings records in
+    first-and-rest (λ (u : ℕ) (s : Setting). length (cellsOf u records) ≤ s .quota) t s settings
+    (leb-true (length (cellsOf t records)) (s .quota) (and-first first rest are))
+    (quotas-within (suc t) settings records (and-second first rest are))
 
 within-quotas : (t : ℕ) (settings : List Setting) (records : List BookRecord) → Within t settings records → withinQuotas t settings records ≡ true
 unfolding withinQuotas
@@ -105,12 +127,29 @@ within-quotas t (s ∷ settings) records within =
     rw (le-leb (length (cellsOf t records)) (s .quota) (within-first t s settings records within))
     (within-quotas (suc t) settings records (within-rest t s settings records within))
 
+module _ (all : List Setting) where
+  principals-named : (t : ℕ) (settings : List Setting) → arePrincipals all t settings ≡ true → Named all t settings
+  unfolding arePrincipals
+  principals-named t [] are = λ i h. absurd (omega arith)
+  principals-named t (s ∷ settings) are =
+      first-and-rest (λ (u : ℕ) (s : Setting). isPrincipal all u s ≡ true) t s settings
+      (and-first (isPrincipal all t s) (arePrincipals all (suc t) settings) are)
+      (principals-named (suc t) settings (and-second (isPrincipal all t s) (arePrincipals all (suc t) settings) are))
+
+  named-principals : (t : ℕ) (settings : List Setting) → Named all t settings → arePrincipals all t settings ≡ true
+  unfolding arePrincipals
+  named-principals t [] named = refl
+  named-principals t (s ∷ settings) named =
+      rw (first-of (λ (u : ℕ) (s : Setting). isPrincipal all u s ≡ true) t s settings named)
+      (named-principals (suc t) settings (rest-of (λ (u : ℕ) (s : Setting). isPrincipal all u s ≡ true) t s settings named))
+
 -- what a book that is tested good is
 pub good-facts : (b : Book) → isGood b ≡ true → Good b
 unfolding isGood
 good-facts b good = record {
   sixteen = sixteen;
   each-setting = λ t h. settings-each (b .settings) (search (and-first, and-second)) t (omega (arith, sixteen));
+  named = λ t h. rw zero-add at (principals-named (b .settings) 0 (b .settings) (search (and-first, and-second)) t (omega (arith, sixteen)));
   sum = leb-true (quotaSum (b .settings)) 512 (search (and-first, and-second));
   count = leb-true (length (b .records)) 512 (search (and-first, and-second));
   sorted = records-sorted (b .records) are;
@@ -132,6 +171,7 @@ facts-good b good =
     rw (
       eq-eqb (length (b .settings)) 16 sixteen,
       each-settings (b .settings) (λ t h. good .each-setting t (omega arith)),
+      named-principals (b .settings) 0 (b .settings) (λ t h. rw zero-add (good .named t (omega arith))),
       le-leb (quotaSum (b .settings)) 512 (good .sum),
       le-leb (length (b .records)) 512 (good .count),
       each-records (b .records) (good .each-record) (good .sorted),

@@ -1,9 +1,9 @@
 -- A good book stays good, whatever call a tenant makes.
 -- Assumes nothing.
-use mathlib.Core.Path.{_≡_, refl, ap, _∙_}
+use mathlib.Core.Path.{_≡_, refl, sym, ap, _∙_}
 use mathlib.Core.Bool.{true}
 use mathlib.Core.List.{List, [], _∷_}
-use Prim.Native.Nat.{ℕ, zero, suc, _+_, _≤_, _<_}
+use Prim.Native.Nat.{ℕ, zero, suc, _+_, _-_, _≤_, _<_}
 use native.Mathlib.Omega.{arith}
 use lib.ListN.{length, getD, set, length-set}
 use lib.Seq.{getD-set-same, getD-set-other}
@@ -13,7 +13,7 @@ use Rattle.forms.specs.Identifiers.{isServerId}
 use Rattle.tenants.specs.declared.Held.{Held}
 use Rattle.tenants.specs.declared.Setting.{Setting}
 use Rattle.tenants.specs.Cells.{entered, withdrawn}
-use Rattle.tenants.specs.Rules.{Change, enters, withdraws, sets, nothing, refuses, isTenant}
+use Rattle.tenants.specs.Rules.{Change, enters, withdraws, sets, nothing, refuses, isTenant, namesNone}
 use Rattle.tenants.specs.Calls.{Call, changeOf}
 use Rattle.tenants.specs.Alone.{withDays}
 use Rattle.tenants.specs.Together.{
@@ -27,6 +27,7 @@ use Rattle.tenants.specs.Together.{
   ownOf,
   changed,
   isSetting,
+  isPrincipal,
   quotaSum,
   isRecord,
   isGood,
@@ -34,8 +35,9 @@ use Rattle.tenants.specs.Together.{
 use Rattle.tenants.proofs.Ordered.{Sorted, equal-or-not, entered-cases, withdrawn-cases, sorted-entered, sorted-withdrawn}
 use Rattle.tenants.proofs.OwnCells.{own-sorted, cells-entered, cells-entered-other, cells-withdrawn, cells-withdrawn-other}
 use Rattle.tenants.proofs.Ranges.{tenant-below, name-below, held-below, record-is}
-use Rattle.tenants.proofs.Allowed.{Allowed, allowed}
+use Rattle.tenants.proofs.Allowed.{hasRoom, Allowed, allowed}
 use Rattle.tenants.proofs.Goodness.{Good, EachRecord, good-facts, facts-good}
+use Rattle.tenants.proofs.Kept.{keptOf, own-kept, field-kept, quota-stays}
 use Rattle.tenants.proofs.Room.{few-records}
 use Rattle.tenants.proofs.Counts.{entered-within, withdrawn-most}
 
@@ -62,6 +64,7 @@ module _ (t : ℕ) (b : Book) (good : Good b) where
   good-records records sorted each within = record {
     sixteen = good .sixteen;
     each-setting = good .each-setting;
+    named = good .named;
     sum = good .sum;
     count = few-records (b .settings) records (good .sixteen) (good .sum) each within;
     sorted = sorted;
@@ -71,13 +74,16 @@ module _ (t : ℕ) (b : Book) (good : Good b) where
 
   good-entered : (cell : Held) → Allowed t (ownOf t b) (enters cell) → Good (changed t (enters cell) b)
   unfolding ownOf
-  good-entered cell (tenant, (held, room)) =
+  good-entered cell (tenant, (held, (none, has))) =
       good-records (entered new (b .records)) (sorted-entered new (b .records) (good .sorted))
       (each-entered new (b .records) (record-is t cell tenant held) (good .each-record))
       within
     where
       new : BookRecord
       new = inBook t cell
+
+      room : hasRoom cell (keptOf t b) ≡ true
+      room = sym (ap (hasRoom cell) (own-kept t b none)) ∙ has
 
       within : (u : ℕ) → u < 16 → length (cellsOf u (entered new (b .records))) ≤ quotaOf u b
       within u h =
@@ -112,12 +118,14 @@ module _ (days : ℕ) where
   sum-kept (s ∷ settings) zero = refl
   sum-kept (s ∷ settings) (suc t) = ap (λ (n : ℕ). s .quota + n) (sum-kept settings t)
 
-  quota-kept : (settings : List Setting) (t u : ℕ) → getD (daysSet settings t) u noSetting .quota ≡ getD settings u noSetting .quota
-  quota-kept [] t u = refl
-  quota-kept (s ∷ settings) zero zero = refl
-  quota-kept (s ∷ settings) zero (suc u) = refl
-  quota-kept (s ∷ settings) (suc t) zero = refl
-  quota-kept (s ∷ settings) (suc t) (suc u) = quota-kept settings t u
+  -- whom a tenant may name goes by quotas and principals
+  named-kept : (settings : List Setting) (t u : ℕ) → isPrincipal settings u (getD settings u noSetting) ≡ true
+      → isPrincipal (daysSet settings t) u (getD (daysSet settings t) u noSetting) ≡ true
+  unfolding isPrincipal namesNone
+  named-kept settings t u right =
+      let principal : (v : ℕ) → getD (daysSet settings t) v noSetting .principal ≡ getD settings v noSetting .principal
+      = field-kept days (λ (s : Setting). s .principal) (λ s. refl) settings t in
+      rw (principal u, principal (getD settings u noSetting .principal - 1), field-kept days (λ (s : Setting). s .quota) (λ s. refl) settings t u) right
 
   setting-kept : (setting : Setting) → isDays days ≡ true → isSetting setting ≡ true → isSetting (withDays days setting) ≡ true
   unfolding isSetting
@@ -127,11 +135,12 @@ module _ (days : ℕ) where
   good-days t b good tenant right = record {
     sixteen = length-set (b .settings) t (withDays days (getD (b .settings) t noSetting)) ∙ good .sixteen;
     each-setting = each;
+    named = λ u h. named-kept (b .settings) t u (good .named u h);
     sum = rw (sum-kept (b .settings) t) (good .sum);
     count = good .count;
     sorted = good .sorted;
     each-record = good .each-record;
-    within = λ u h. rw (quota-kept (b .settings) t u) (good .within u h);
+    within = λ u h. rw (quota-stays t b u (sets days)) (good .within u h);
   }
     where
       each : (u : ℕ) → u < 16 → isSetting (getD (daysSet (b .settings) t) u noSetting) ≡ true

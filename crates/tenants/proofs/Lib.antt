@@ -3,6 +3,7 @@ pub mod OwnCells
 pub mod Ranges
 pub mod Allowed
 pub mod Goodness
+pub mod Kept
 pub mod Room
 pub mod Counts
 pub mod OneList
@@ -11,4 +12,7 @@ pub mod FoundHeld
 pub mod Producers
 pub mod Later
 pub mod Apart
+pub mod Depends
+pub mod Branches
 pub mod MixedLists
+pub mod MixedAnswers

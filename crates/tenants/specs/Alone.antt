@@ -20,7 +20,7 @@ callsOf t (m ∷ made) = cond (eqb (m .tenant) t) (m .call ∷ callsOf t made) (
 
 -- a setting with other warning days
 abbrev pub withDays : ℕ → Setting → Setting
-withDays days setting = record { quota = setting .quota; days = days; server = setting .server }
+withDays days setting = record { quota = setting .quota; days = days; server = setting .server; principal = setting .principal }
 
 -- what is the tenant's own after a change
 abbrev pub after : Change → Own → Own

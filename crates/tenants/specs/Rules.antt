@@ -3,7 +3,7 @@ use mathlib.Core.Bool.{Bool, true, false, _&&_, _||_}
 use mathlib.Core.List.{List, _++_}
 use mathlib.Core.Option.{Option, none, some}
 use Prim.Native.Nat.{ℕ}
-use lib.Dec.{leb, ltb}
+use lib.Dec.{leb, ltb, eqb}
 use lib.ListN.{length}
 use Rattle.dates.specs.Calendar.{isDate}
 use Rattle.dates.specs.Notice.{isDays}
@@ -27,7 +27,7 @@ use Rattle.tenants.specs.declared.Holding.{Holding}
 use Rattle.tenants.specs.declared.Holding.the-variants as holding
 use Rattle.tenants.specs.Cells.{cellOf, holdsAny}
 
--- what is one tenant's own: its setting, and its cells in name order
+-- what is one tenant's own: its setting, and its cells in name order; a branch's are its principal's
 pub record Own : Type 0 where
   pub setting : Setting
   pub cells : List Held
@@ -56,26 +56,32 @@ isTenant t = leb t 15
 unfoldable pub isHeld : Held → Bool
 isHeld cell = isCellName (cell .name) && (leb 1 (cell .edition) && leb (cell .edition) 999) && isCellKey (cell .key1) && isCellKey (cell .key2)
 
+-- no principal is named, so it is no branch
+unfoldable pub namesNone : Setting → Bool
+namesNone setting = eqb (setting .principal) 0
+
 -- there is a cell
 abbrev pub isSome : Option Held → Bool
 isSome none = false
 isSome (some cell) = true
 
--- enter a cell: a held name is replaced, a new one needs room in the tenant's own quota
+-- enter a cell, which a branch cannot: a held name is replaced, a new one needs room in the tenant's own quota
 unfoldable pub entering : ℕ → Held → Own → Change
 entering t cell own =
     demand (isTenant t) (refuses 102)
     (demand (isHeld cell) (refuses 103)
+    (demand (namesNone (own .setting)) (refuses 111)
     (demand (isSome (cellOf (cell .name) (own .cells)) || ltb (length (own .cells)) (own .setting .quota)) (refuses 105)
-    (enters cell)))
+    (enters cell))))
 
--- withdraw a cell
+-- withdraw a cell, which a branch cannot
 unfoldable pub withdrawing : ℕ → ℕ → Own → Change
 withdrawing t name own =
     demand (isTenant t) (refuses 102)
     (demand (isCellName name) (refuses 103)
+    (demand (namesNone (own .setting)) (refuses 111)
     (demand (isSome (cellOf name (own .cells))) (refuses 104)
-    (withdraws name)))
+    (withdraws name))))
 
 -- set warning days
 unfoldable pub settingDays : ℕ → ℕ → Own → Change

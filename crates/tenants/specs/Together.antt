@@ -1,7 +1,7 @@
 -- Sixteen tenants together: one list of all their cells, ordered by tenant and then by name.
-use mathlib.Core.Bool.{Bool, true, cond, _&&_}
+use mathlib.Core.Bool.{Bool, true, cond, not, _&&_, _||_}
 use mathlib.Core.List.{List, [], _∷_}
-use Prim.Native.Nat.{ℕ, suc, _+_, _*_, _/_, _%_}
+use Prim.Native.Nat.{ℕ, suc, _+_, _-_, _*_, _/_, _%_}
 use lib.Dec.{leb, eqb}
 use lib.ListN.{length, getD, set}
 use Rattle.dates.specs.Notice.{isDays}
@@ -9,7 +9,7 @@ use Rattle.forms.specs.Identifiers.{isServerId}
 use Rattle.tenants.specs.declared.Held.{Held}
 use Rattle.tenants.specs.declared.Setting.{Setting}
 use Rattle.tenants.specs.Cells.{entered, withdrawn, startsAbove}
-use Rattle.tenants.specs.Rules.{Own, Change, enters, withdraws, sets, nothing, refuses, isTenant, isHeld}
+use Rattle.tenants.specs.Rules.{Own, Change, enters, withdraws, sets, nothing, refuses, isTenant, isHeld, namesNone}
 use Rattle.tenants.specs.Alone.{withDays}
 
 -- a record of the book is a tenant's cell under its full name; both lists, a tenant's cells and the records, are kept by the same rules
@@ -53,24 +53,32 @@ inBook t cell = named (fullName t (cell .name)) cell
 abbrev pub cellIn : BookRecord → Held
 cellIn r = named (nameOf r) r
 
--- the cells of tenant t by their names
+-- the cells that stand under tenant t's number, by their names
 unfoldable pub cellsOf : ℕ → List BookRecord → List Held
 cellsOf t [] = []
 cellsOf t (r ∷ records) = cond (eqb (tenantOf r) t) (cellIn r ∷ cellsOf t records) (cellsOf t records)
 
 -- the setting of a number that is no tenant's
 abbrev pub noSetting : Setting
-noSetting = record { quota = 0; days = 0; server = 0 }
+noSetting = record { quota = 0; days = 0; server = 0; principal = 0 }
 
--- what is tenant t's own
+-- the setting of tenant t
+abbrev pub settingOf : ℕ → Book → Setting
+settingOf t book = getD (book .settings) t noSetting
+
+-- the tenant whose list tenant t reads: its principal where it is a branch, and else itself
+unfoldable pub listOf : ℕ → Book → ℕ
+listOf t book = cond (namesNone (settingOf t book)) t (settingOf t book .principal - 1)
+
+-- what is tenant t's own: its setting, and the cells of that list
 unfoldable pub ownOf : ℕ → Book → Own
-ownOf t book = record { setting = getD (book .settings) t noSetting; cells = cellsOf t (book .records) }
+ownOf t book = record { setting = settingOf t book; cells = cellsOf (listOf t book) (book .records) }
 
 -- the book after a change that tenant t makes
 abbrev pub changed : ℕ → Change → Book → Book
 changed t (enters cell) book = record { settings = book .settings; records = entered (inBook t cell) (book .records) }
 changed t (withdraws name) book = record { settings = book .settings; records = withdrawn (fullName t name) (book .records) }
-changed t (sets days) book = record { settings = set (book .settings) t (withDays days (getD (book .settings) t noSetting)); records = book .records }
+changed t (sets days) book = record { settings = set (book .settings) t (withDays days (settingOf t book)); records = book .records }
 changed t nothing book = book
 changed t (refuses n) book = book
 
@@ -82,6 +90,17 @@ isSetting setting = isDays (setting .days) && isServerId (setting .server)
 unfoldable pub areSettings : List Setting → Bool
 areSettings [] = true
 areSettings (s ∷ settings) = isSetting s && areSettings settings
+
+-- what a setting s of tenant t may name: none, or a tenant 0 to 15 that is not t itself and names none itself; then t's quota is 0
+unfoldable pub isPrincipal : List Setting → ℕ → Setting → Bool
+isPrincipal settings t s =
+    namesNone s
+    || (isTenant (s .principal - 1) && not (eqb (s .principal - 1) t) && namesNone (getD settings (s .principal - 1) noSetting) && eqb (s .quota) 0)
+
+-- each of these names so, which are those of tenant t and the following
+unfoldable pub arePrincipals : List Setting → ℕ → List Setting → Bool
+arePrincipals settings t [] = true
+arePrincipals settings t (s ∷ following) = isPrincipal settings t s && arePrincipals settings (suc t) following
 
 -- the sum of the quotas
 unfoldable pub quotaSum : List Setting → ℕ
@@ -102,9 +121,10 @@ unfoldable pub withinQuotas : ℕ → List Setting → List BookRecord → Bool
 withinQuotas t [] records = true
 withinQuotas t (s ∷ settings) records = leb (length (cellsOf t records)) (s .quota) && withinQuotas (suc t) settings records
 
--- sixteen settings, quotas that sum to at most 512, at most 512 records, and all as it should be
+-- sixteen settings, principals that may be named, quotas that sum to at most 512, at most 512 records, and all as it should be
 unfoldable pub isGood : Book → Bool
 isGood book =
-    eqb (length (book .settings)) 16 && areSettings (book .settings) && leb (quotaSum (book .settings)) 512
+    eqb (length (book .settings)) 16 && areSettings (book .settings) && arePrincipals (book .settings) 0 (book .settings)
+    && leb (quotaSum (book .settings)) 512
     && leb (length (book .records)) 512 && areRecords (book .records)
     && withinQuotas 0 (book .settings) (book .records)

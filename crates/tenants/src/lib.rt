@@ -8,11 +8,13 @@ pub struct Held {
     pub key2: u64,
 }
 
-// What is set for a tenant: how many cells it may hold, its warning days and its Data Server ID.
+// What is set for a tenant: how many cells it may hold, its warning days, its Data Server ID, and its principal, whose cells it reads: 0 for none, otherwise the
+// principal's number plus one.
 pub struct Setting {
     pub quota: u32,
     pub days: u32,
     pub server: u32,
+    pub principal: u32,
 }
 
 // What asking for an edition answers.
