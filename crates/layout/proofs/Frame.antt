@@ -47,7 +47,6 @@ pub record Frame (s : List ℕ) : Type 0 where
   pub version : getD s 0 0 ≡ 1
   pub used : numberAt 4 s 1 ≡ usedLength (recordCount s)
   pub few : recordCount s ≤ 512
-  pub settings : (t : ℕ) → t < 16 → getD s (settingPlace t + 5) 0 ≡ 0
   pub records : (i : ℕ) → i < recordCount s → numberAt 3 s (recordPlace i + 21) ≡ 0
   pub rest : (j : ℕ) → usedLength (recordCount s) ≤ j → getD s j 0 ≡ 0
 
@@ -80,7 +79,7 @@ module _ (s : List ℕ) (below : Below 256 s) (frame : Frame s) where
   from-settings =
       ap₂ (λ (a b : List ℕ). a ++ b)
       (each-written settingSize settingBytes settingPlace (λ t. omega arith) (settingAt s) s 0 16
-      (λ t low high. setting-written s below t (omega (arith, frame .size)) (frame .settings t (omega arith))))
+      (λ t low high. setting-written s below t (omega (arith, frame .size))))
       from-records
       ∙ meet 96 12288 s 5 101 refl
 
@@ -106,31 +105,10 @@ zero-anywhere zero k = refl
 zero-anywhere (suc m) zero = refl
 zero-anywhere (suc m) (suc k) = zero-anywhere m k
 
--- the last byte of each setting is zero
-last-zero : (settings : List Setting) (t : ℕ) → getD (allBytes settingBytes settings) (6 * t + 5) 0 ≡ 0
-unfolding allBytes settingBytes digits
-last-zero [] t = refl
-last-zero (x ∷ settings) zero = refl
-last-zero (x ∷ settings) (suc t) =
-    let next : 6 * suc t + 5 ≡ 6 + (6 * t + 5) = omega arith in
-    ap (λ (k : ℕ). getD (settingBytes x ++ allBytes settingBytes settings) k 0) next
-    ∙ getD-append-add (settingBytes x) (allBytes settingBytes settings) (6 * t + 5) 0
-    ∙ last-zero settings t
-
 -- the bytes of a book whose numbers fit
 module _ (book : Book) (fits : BookFits book) where
   abbrev m : ℕ
   m = length (book .records)
-
-  setting-zero : (t : ℕ) → t < 16 → getD (bookBytes book) (settingPlace t + 5) 0 ≡ 0
-  unfolding bookBytes
-  setting-zero t h =
-      let place : settingPlace t + 5 ≡ length (start m) + (6 * t + 5) = simp digits-length (omega arith) in
-      ap (λ (k : ℕ). getD (bookBytes book) k 0) place
-      ∙ getD-append-add (start m) (allBytes settingBytes (book .settings) ++ (allBytes recordBytes (book .records) ++ rest m)) (6 * t + 5) 0
-      ∙ List·getD-append (allBytes settingBytes (book .settings)) (allBytes recordBytes (book .records) ++ rest m) 0 (6 * t + 5)
-      (omega (arith, settings-size (book .settings), fits .sixteen))
-      ∙ last-zero (book .settings) t
 
   record-zero : (before : List BookRecord) (r : BookRecord) (after : List BookRecord) → book .records ≡ before ++ (r ∷ after)
       → numberAt 3 (bookBytes book) (recordPlace (length before) + 21) ≡ 0
@@ -158,7 +136,6 @@ module _ (book : Book) (fits : BookFits book) where
     version = version;
     used = used-back book fits ∙ ap usedLength (sym (count-back book fits));
     few = omega (arith, count-back book fits, fits .few);
-    settings = setting-zero;
     records = zeros-there;
     rest = λ j past. rest-zero j (omega (arith, count-back book fits));
   }

@@ -42,7 +42,7 @@ number-back n x at front back {s} e start fits =
 
 module _ (x : Setting) (t : ℕ) (front back : List ℕ) (start : length front ≡ settingPlace t) (fits : SettingFits x) where
   setting-back : settingAt (front ++ (settingBytes x ++ back)) t ≡ x
-  setting-back = unfold settingAt in λ i. record { quota = quota i; days = days i; server = server i }
+  setting-back = unfold settingAt in λ i. record { quota = quota i; days = days i; server = server i; principal = principal i }
     where
       s : List ℕ
       s = front ++ (settingBytes x ++ back)
@@ -51,7 +51,10 @@ module _ (x : Setting) (t : ℕ) (front back : List ℕ) (start : length front �
       before-days = front ++ bytesOf 2 (x .quota)
 
       after-days : List ℕ
-      after-days = bytesOf 2 (x .server) ++ (zeros 1 ++ back)
+      after-days = bytesOf 2 (x .server) ++ (bytesOf 1 (x .principal) ++ back)
+
+      before-server : List ℕ
+      before-server = before-days ++ bytesOf 1 (x .days)
 
       quota : numberAt 2 s (settingPlace t) ≡ x .quota
       quota =
@@ -65,8 +68,13 @@ module _ (x : Setting) (t : ℕ) (front back : List ℕ) (start : length front �
 
       server : numberAt 2 s (settingPlace t + 3) ≡ x .server
       server =
-          number-back 2 (x .server) (settingPlace t + 3) (before-days ++ bytesOf 1 (x .days)) (zeros 1 ++ back)
+          number-back 2 (x .server) (settingPlace t + 3) before-server (bytesOf 1 (x .principal) ++ back)
           (unfold settingBytes in simp append-assoc) (simp (length-append, digits-length) (omega arith)) (fits .server)
+
+      principal : numberAt 1 s (settingPlace t + 5) ≡ x .principal
+      principal =
+          number-back 1 (x .principal) (settingPlace t + 5) (before-server ++ bytesOf 2 (x .server)) back
+          (unfold settingBytes in simp append-assoc) (simp (length-append, digits-length) (omega arith)) (fits .principal)
 
 module _ (r : BookRecord) (i : ℕ) (front back : List ℕ) (start : length front ≡ recordPlace i) (fits : RecordFits r) where
   record-back : recordAt (front ++ (recordBytes r ++ back)) i ≡ r

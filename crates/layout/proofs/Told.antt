@@ -30,7 +30,8 @@ module _ (s : List ℕ) (used : ℕ) (is : used ≡ numberAt 4 s 1) where
   unfolding recordCount
   count-told = ap (λ (n : ℕ). (n - 101) / 24) is
 
-pub setting-told : (s : List ℕ) (t quota days server : ℕ) → quota ≡ numberAt 2 s (settingPlace t) → days ≡ getD s (settingPlace t + 2) 0
-    → server ≡ numberAt 2 s (settingPlace t + 3) → _≡_ {A = Setting} (record { quota = quota; days = days; server = server }) (settingAt s t)
+pub setting-told : (s : List ℕ) (t quota days server principal : ℕ) → quota ≡ numberAt 2 s (settingPlace t) → days ≡ getD s (settingPlace t + 2) 0
+    → server ≡ numberAt 2 s (settingPlace t + 3) → principal ≡ getD s (settingPlace t + 5) 0
+    → _≡_ {A = Setting} (record { quota = quota; days = days; server = server; principal = principal }) (settingAt s t)
 unfolding settingAt
-setting-told s t quota days server q d w = rw (q, d, w, byte-number)
+setting-told s t quota days server principal q d w p = rw (q, d, w, p, byte-number, byte-number)

@@ -1,4 +1,4 @@
--- What is read of a setting or a record with its zeros is written as it stands.
+-- What is read of a setting, or of a record with its zeros, is written as it stands.
 -- Assumes nothing.
 use mathlib.Core.Path.{_≡_, refl, sym, ap, ap₂, _∙_}
 use mathlib.Core.List.{List, _∷_, _++_}
@@ -23,16 +23,17 @@ zeros-part (suc n) s at within zero-there =
     ∙ sym (ap (take (suc n)) (drop-cons s at 0 (omega arith)))
 
 module _ (s : List ℕ) (below : Below 256 s) where
-  pub setting-written : (t : ℕ) → settingPlace t + 6 ≤ length s → getD s (settingPlace t + 5) 0 ≡ 0
-      → settingBytes (settingAt s t) ≡ part 6 s (settingPlace t)
+  pub setting-written : (t : ℕ) → settingPlace t + 6 ≤ length s → settingBytes (settingAt s t) ≡ part 6 s (settingPlace t)
   unfolding settingBytes settingAt
-  setting-written t within zero-there =
+  setting-written t within =
       let at = settingPlace t in
-      let last : zeros 1 ≡ part 1 s (at + 5) = zeros-part 1 s (at + 5) (omega arith)
-      (λ j low high. let e : j ≡ at + 5 = omega arith in ap (λ (k : ℕ). getD s k 0) e ∙ zero-there) in
-      rw (bytes-at 2 s at below (omega arith), bytes-at 1 s (at + 2) below (omega arith), bytes-at 2 s (at + 3) below (omega arith))
-      (ap (λ (l : List ℕ). part 2 s at ++ (part 1 s (at + 2) ++ (part 2 s (at + 3) ++ l))) last
-      ∙ ap (λ (l : List ℕ). part 2 s at ++ (part 1 s (at + 2) ++ l)) (meet 2 1 s (at + 3) (at + 5) (omega arith))
+      rw (
+        bytes-at 2 s at below (omega arith),
+        bytes-at 1 s (at + 2) below (omega arith),
+        bytes-at 2 s (at + 3) below (omega arith),
+        bytes-at 1 s (at + 5) below (omega arith),
+      )
+      (ap (λ (l : List ℕ). part 2 s at ++ (part 1 s (at + 2) ++ l)) (meet 2 1 s (at + 3) (at + 5) (omega arith))
       ∙ ap (λ (l : List ℕ). part 2 s at ++ l) (meet 1 3 s (at + 2) (at + 3) (omega arith))
       ∙ meet 2 4 s at (at + 2) (omega arith))
 

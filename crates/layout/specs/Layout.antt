@@ -9,7 +9,7 @@ use Rattle.bytes.specs.Places.{numberAt}
 use Rattle.text.specs.Texts.{sameText}
 use Rattle.tenants.specs.declared.Setting.{Setting}
 use Rattle.tenants.specs.Rules.{Own}
-use Rattle.tenants.specs.Together.{Book, BookRecord, full, ownOf, isGood}
+use Rattle.tenants.specs.Together.{Book, BookRecord, full, listOf, ownOf, isGood}
 
 -- how many bytes a setting has
 abbrev pub settingSize : ℕ
@@ -35,9 +35,9 @@ bookSize = 12389
 abbrev pub zeros : ℕ → List ℕ
 zeros n = replicate n 0
 
--- a setting: quota (2), warning days (1), Data Server ID (2), zero
+-- a setting: quota (2), warning days (1), Data Server ID (2), principal (1)
 unfoldable pub settingBytes : Setting → List ℕ
-settingBytes s = bytesOf 2 (s .quota) ++ (bytesOf 1 (s .days) ++ (bytesOf 2 (s .server) ++ zeros 1))
+settingBytes s = bytesOf 2 (s .quota) ++ (bytesOf 1 (s .days) ++ (bytesOf 2 (s .server) ++ bytesOf 1 (s .principal)))
 
 -- a record: tenant (1) and cell name (8), which are the full name, edition (2), keys (5 + 5), three zeros
 unfoldable pub recordBytes : BookRecord → List ℕ
@@ -74,6 +74,7 @@ settingAt s t = record {
   quota = numberAt 2 s (settingPlace t);
   days = numberAt 1 s (settingPlace t + 2);
   server = numberAt 2 s (settingPlace t + 3);
+  principal = numberAt 1 s (settingPlace t + 5);
 }
 
 -- record i, under its full name
@@ -101,6 +102,10 @@ bookOf s = record { settings = eachFrom (settingAt s) 0 16; records = eachFrom (
 -- an undamaged book: 12,389 bytes, which are exactly those of what they say, and that is good
 unfoldable pub isBook : List ℕ → Bool
 isBook s = eqb (length s) bookSize && sameText s (bookBytes (bookOf s)) && isGood (bookOf s)
+
+-- the tenant whose list tenant t reads, by the bytes
+abbrev pub listIn : List ℕ → ℕ → ℕ
+listIn s t = listOf t (bookOf s)
 
 -- what is tenant t's own in the book
 abbrev pub ownIn : List ℕ → ℕ → Own

@@ -1,6 +1,6 @@
 // The book's bytes: what they say.
 ghost use mathlib.Core.Path.{_≡_};
-ghost use Rattle.layout.specs.Layout.{recordCount, settingAt};
+ghost use Rattle.layout.specs.Layout.{recordCount, settingAt, listIn};
 use bytes::numbers::number16;
 use bytes::numbers::number32;
 use tenants::Setting;
@@ -45,5 +45,17 @@ pub fn setting_of(book: &[u8], t: u32) -> Setting
         quota: number16(book, at) as u32,
         days: byte_at(book, at + 2) as u32,
         server: number16(book, at + 3) as u32,
+        principal: byte_at(book, at + 5) as u32,
     }
+}
+
+// The tenant whose list a tenant reads: its principal where it is a branch, and else itself.
+pub fn list_of(book: &[u8], t: u32) -> u32
+    ensures { λ r. ⌜ r ≡ listIn (now (book .entry)) t ⌝ }
+{
+    if 15 < t {
+        return t;
+    }
+    let principal = byte_at(book, SETTINGS_PLACE + SETTING_SIZE * t as usize + 5) as u32;
+    if principal == 0 { t } else { principal - 1 }
 }

@@ -1,19 +1,21 @@
--- What is tested of a tenant, warning days, a name, a cell and a record, as bounds; and back.
+-- What is tested of a tenant, warning days, a principal, a name, a cell and a record, as bounds; and back.
 -- Assumes nothing.
 use mathlib.Core.Path.{_≡_, sym}
 use mathlib.Core.Bool.{true, false}
-use Prim.Native.Nat.{ℕ, _+_, _*_, _/_, _%_, _^_, _≤_, _<_}
+use mathlib.Core.List.{List}
+use Prim.Native.Nat.{ℕ, _+_, _-_, _*_, _/_, _%_, _^_, _≤_, _<_}
 use native.Mathlib.Omega.{arith}
-use borrow.Author.Tests.{leb-true, le-leb, lt-leb, ltb-true, lt-ltb}
-use lib.Dec.{leb}
+use borrow.Author.Tests.{leb-true, le-leb, lt-leb, ltb-true, lt-ltb, eqb-true}
+use lib.Dec.{leb, eqb}
 use Rattle.bytes.proofs.Every.{and-first, and-second, either, same-tests}
 use Rattle.text.specs.Characters.{isNameCharacter}
 use Rattle.dates.specs.Notice.{isDays}
 use Rattle.forms.specs.Identifiers.{isCellName, isCellKey}
 use Rattle.forms.proofs.Fits.{text-fits}
 use Rattle.tenants.specs.declared.Held.{Held}
-use Rattle.tenants.specs.Rules.{isTenant, isHeld}
-use Rattle.tenants.specs.Together.{inBook, cellIn, BookRecord, names, tenantOf, isRecord}
+use Rattle.tenants.specs.declared.Setting.{Setting}
+use Rattle.tenants.specs.Rules.{isTenant, isHeld, namesNone}
+use Rattle.tenants.specs.Together.{inBook, cellIn, BookRecord, names, tenantOf, isPrincipal, isRecord}
 
 module _ (t : ℕ) where
   pub tenant-is : t ≤ 15 → isTenant t ≡ true
@@ -31,6 +33,14 @@ module _ (t : ℕ) where
 pub days-below : (days : ℕ) → isDays days ≡ true → days < 256
 unfolding isDays
 days-below days right = omega (arith, leb-true days 90 (and-second (leb 1 days) (leb days 90) right))
+
+-- a principal's number plus one
+pub principal-below : (settings : List Setting) (t : ℕ) (s : Setting) → isPrincipal settings t s ≡ true → s .principal ≤ 16
+unfolding isPrincipal namesNone isTenant
+principal-below settings t s right =
+    either (eqb (s .principal) 0)
+    (λ none. omega (arith, eqb-true (s .principal) 0 none))
+    (λ named. omega (arith, leb-true (s .principal - 1) 15 (search (and-first, rw named at right))))
 
 pub name-below : (name : ℕ) → isCellName name ≡ true → name < names
 name-below name right = text-fits isNameCharacter 8 name right

@@ -35,8 +35,19 @@ number16-requires-2 c κs = search needs
 cast-t11 : tie.Need-cast-t11
 cast-t11 c = search needs
 
+add-byte-at-2 : tie.Need-add-byte-at-2
+add-byte-at-2 c = search needs
+
+byte-at-requires-2 : tie.Need-byte-at-requires-2
+byte-at-requires-2 c κs = search needs
+
+cast-t14 : tie.Need-cast-t14
+cast-t14 c = search needs
+
 returns : tie.Need-returns
-returns c = setting-told _ _ _ _ _ (c .before .before .number16 .ensures) (c .before .byte-at .ensures) (c .number162 .ensures)
+returns c =
+    setting-told _ _ _ _ _ _ (c .before .before .before .number16 .ensures) (c .before .before .byte-at .ensures) (c .before .number162 .ensures)
+    (c .byte-at2 .ensures)
 
 pub setting-of-spec : {M : Type 1} → statement M
 setting-of-spec =
@@ -52,4 +63,7 @@ setting-of-spec =
     add-number16
     number16-requires-2
     cast-t11
+    add-byte-at-2
+    byte-at-requires-2
+    cast-t14
     returns)
