@@ -1,4 +1,4 @@
--- What judging a book for a tenant answers, by what the tests and the three stretches of parts find.
+-- What judging a book for a tenant's number answers, by what the tests and the three stretches of parts find.
 -- Assumes nothing.
 use mathlib.Core.Path.{_≡_, sym, ap, ap₂, _∙_}
 use mathlib.Core.Bool.{true, false}
@@ -12,7 +12,7 @@ use Rattle.bytes.specs.Numbers.{Below}
 use Rattle.bytes.proofs.Every.{either}
 use Rattle.tenants.specs.Together.{BookRecord, areRecords}
 use Rattle.layout.specs.Layout.{recordsPlace, recordSize, usedLength, recordPlace, recordCount, bookOf, isBook}
-use Rattle.judging.specs.Starts.{startOf, firstIn, pastIn, judged}
+use Rattle.judging.specs.Starts.{startOf, firstIn, pastIn, judgedUnder}
 use Rattle.judging.specs.Judging.{frameTest, onward, partsFrom, upTo16}
 use Rattle.judging.specs.declared.Judged.{Judged}
 use Rattle.judging.specs.declared.Judged.the-variants.{Records, Damaged}
@@ -67,11 +67,11 @@ module _ (s : List ℕ) (below : Below 256 s) (t : ℕ) where
   abbrev partsTo : ℕ → Part
   partsTo m = partsFrom s used 0 recordsPlace m
 
-  damaged : isBook s ≡ false → Damaged ≡ judged s t
-  unfolding judged
+  damaged : isBook s ≡ false → Damaged ≡ judgedUnder s t
+  unfolding judgedUnder
   damaged not = sym (rw not)
 
-  pub no-frame : frameTest s ≡ false → Damaged ≡ judged s t
+  pub no-frame : frameTest s ≡ false → Damaged ≡ judgedUnder s t
   no-frame wrong =
       damaged (either (isBook s) (λ undamaged. undamaged ∙ sym (framed-test s (book-framed s below undamaged)) ∙ wrong) (λ not. not))
 
@@ -81,7 +81,7 @@ module _ (s : List ℕ) (below : Below 256 s) (t : ℕ) where
       book-parts s below undamaged 16 (omega arith)
       ∙ ap (λ (i : ℕ). Ends (recordPlace i)) (start-all 16 (bookOf s .records) (omega arith) (book-right s below undamaged) ∙ book-count s)
 
-  not-ended : (partsTo 16 ≡ Ends used → ⊥) → Damaged ≡ judged s t
+  not-ended : (partsTo 16 ≡ Ends used → ⊥) → Damaged ≡ judgedUnder s t
   not-ended never = damaged (either (isBook s) (λ undamaged. absurd (never (all-end undamaged))) (λ not. not))
 
   -- one stretch of parts after another
@@ -101,7 +101,7 @@ module _ (s : List ℕ) (below : Below 256 s) (t : ℕ) where
       ∙ parts-join s used a (b - a) 0 recordsPlace
       ∙ ap (λ (p : Part). onward p (λ (end : ℕ). partsFrom s used (0 + a) end (b - a))) wrong
 
-  pub below-wrong : (a : ℕ) → a ≤ 16 → partsTo a ≡ Wrong → Damaged ≡ judged s t
+  pub below-wrong : (a : ℕ) → a ≤ 16 → partsTo a ≡ Wrong → Damaged ≡ judgedUnder s t
   below-wrong a low wrong = not-ended (λ ends. wrong-ends (sym (wrong-stretch a 16 low wrong) ∙ ends))
 
   -- tenant t's own number, and the next
@@ -112,7 +112,7 @@ module _ (s : List ℕ) (below : Below 256 s) (t : ℕ) where
   next = upTo16 (own + 1)
 
   module _ (first : ℕ) (to-own : partsTo own ≡ Ends first) where
-    pub own-wrong : partsFrom s used own first (next - own) ≡ Wrong → Damaged ≡ judged s t
+    pub own-wrong : partsFrom s used own first (next - own) ≡ Wrong → Damaged ≡ judgedUnder s t
     own-wrong wrong = below-wrong next (up-to-most (own + 1)) (stretch own next first (own-next t) to-own ∙ wrong)
 
     module _ (past : ℕ) (to-next : partsFrom s used own first (next - own) ≡ Ends past) where
@@ -122,21 +122,21 @@ module _ (s : List ℕ) (below : Below 256 s) (t : ℕ) where
       rest-is : partsTo 16 ≡ partsFrom s used next past (16 - next)
       rest-is = stretch next 16 past (up-to-most (own + 1)) ended-next
 
-      pub rest-wrong : partsFrom s used next past (16 - next) ≡ Wrong → Damaged ≡ judged s t
+      pub rest-wrong : partsFrom s used next past (16 - next) ≡ Wrong → Damaged ≡ judgedUnder s t
       rest-wrong wrong = not-ended (λ ends. wrong-ends (sym (rest-is ∙ wrong) ∙ ends))
 
       module _ (end : ℕ) (to-end : partsFrom s used next past (16 - next) ≡ Ends end) where
-        pub records-left : (end ≡ used → ⊥) → Damaged ≡ judged s t
+        pub records-left : (end ≡ used → ⊥) → Damaged ≡ judgedUnder s t
         records-left other = not-ended (λ ends. other (ends-same (sym (rest-is ∙ to-end) ∙ ends)))
 
         pub all-right : Framed s → end ≡ used → (i j : ℕ) → i ≡ (first - recordsPlace) / recordSize
-            → j ≡ (past - recordsPlace) / recordSize → Records i j ≡ judged s t
+            → j ≡ (past - recordsPlace) / recordSize → Records i j ≡ judgedUnder s t
         all-right framed done i j is-i is-j =
             ap₂ Records
             (is-i ∙ place-is first (firstIn s own) (ends-same (sym to-own ∙ book-parts s below undamaged own (up-to-most t))) ∙ start-up-to records good t)
             (is-j ∙ place-is past (firstIn s next) (ends-same (sym ended-next ∙ book-parts s below undamaged next (up-to-most (own + 1))))
             ∙ start-after records good t)
-            ∙ sym (unfold judged in rw undamaged)
+            ∙ sym (unfold judgedUnder in rw undamaged)
           where
             records : List BookRecord
             records = bookOf s .records
@@ -158,11 +158,11 @@ records-same : {a b i j : ℕ} → _≡_ {A = Judged} (Records a b) (Records i j
 records-same e = (cc, cc)
 
 module _ (s : List ℕ) (t : ℕ) where
-  pub judged-says : (i j : ℕ) → judged s t ≡ Records i j → (isBook s ≡ true) × ((i ≡ firstIn s t) × (j ≡ pastIn s t))
-  unfolding judged
+  pub judged-says : (i j : ℕ) → judgedUnder s t ≡ Records i j → (isBook s ≡ true) × ((i ≡ firstIn s t) × (j ≡ pastIn s t))
+  unfolding judgedUnder
   judged-says i j so =
       either (isBook s) (λ undamaged. (undamaged, records-same (rw undamaged at so))) (λ not. absurd (no-records (rw not at so)))
 
-  pub judged-damaged : judged s t ≡ Damaged → isBook s ≡ false
-  unfolding judged
+  pub judged-damaged : judgedUnder s t ≡ Damaged → isBook s ≡ false
+  unfolding judgedUnder
   judged-damaged so = either (isBook s) (λ undamaged. absurd (no-records (sym (rw undamaged at so)))) (λ not. not)

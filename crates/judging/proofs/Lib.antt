@@ -2,6 +2,7 @@ pub mod Parts
 pub mod Zeros
 pub mod AllFrom
 pub mod SettingTests
+pub mod PrincipalTests
 pub mod RecordTests
 pub mod PartSteps
 pub mod PartsSteps

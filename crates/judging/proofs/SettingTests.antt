@@ -5,22 +5,20 @@ use mathlib.Core.Bool.{Bool, true, false, _&&_}
 use mathlib.Core.List.{List}
 use Prim.Native.Nat.{ℕ, zero, suc, _+_, _≤_, _<_}
 use native.Mathlib.Omega.{arith}
-use borrow.Author.Tests.{eqb-true, eq-eqb}
 use lib.Dec.{leb}
 use lib.ListN.{length, getD}
 use Rattle.bytes.specs.Numbers.{Below}
 use Rattle.bytes.specs.Places.{numberAt}
-use Rattle.bytes.proofs.Every.{and-first, and-second}
 use Rattle.bytes.proofs.Places.{number-at-below}
 use Rattle.dates.specs.Notice.{isDays}
 use Rattle.forms.specs.Identifiers.{isServerId}
 use Rattle.tenants.specs.declared.Setting.{Setting}
 use Rattle.tenants.specs.Together.{isSetting, areSettings}
 use Rattle.layout.specs.Layout.{settingSize, settingPlace, recordsPlace, settingAt, eachFrom}
-use Rattle.judging.specs.Judging.{isZero, settingPart, allFrom, settingTest, settingsTest}
+use Rattle.judging.specs.Judging.{settingPart, allFrom, settingTest, settingsTest}
 use Rattle.layout.proofs.Told.{byte-number}
 use Rattle.judging.proofs.Parts.{number-in-part, byte-in-part}
-use Rattle.judging.proofs.AllFrom.{all-each, each-all, Passed, passed-none, passed-next, passed-all, one-fails}
+use Rattle.judging.proofs.AllFrom.{Passed, passed-none, passed-next, passed-all, one-fails, same-all}
 use Rattle.layout.proofs.QuotaSums.{Summed, summed-none, summed-next, summed-all}
 
 module _ (p : List ℕ) (days : Bool) (is : days ≡ isDays (getD p 2 0)) where
@@ -29,13 +27,9 @@ module _ (p : List ℕ) (days : Bool) (is : days ≡ isDays (getD p 2 0)) where
   no-days wrong = rw (sym is ∙ wrong)
 
   module _ (fit : days ≡ true) (server : Bool) (told : server ≡ isServerId (numberAt 2 p 3)) where
-    pub no-server : server ≡ false → settingTest p ≡ false
+    pub by-server : server ≡ settingTest p
     unfolding settingTest
-    no-server wrong = rw (sym is ∙ fit, sym told ∙ wrong)
-
-    pub by-last-byte : server ≡ true → (last : ℕ) → last ≡ getD p 5 0 → isZero last ≡ settingTest p
-    unfolding settingTest
-    by-last-byte right last e = rw (sym is ∙ fit, sym told ∙ right) (ap isZero e)
+    by-server = rw (sym is ∙ fit) told
 
 -- all of a row are settings where each is one
 settings-each : (at : ℕ → Setting) (t n : ℕ) → areSettings (eachFrom at t n) ≡ allFrom (λ (u : ℕ). isSetting (at u)) t n
@@ -82,33 +76,17 @@ module _ (s : List ℕ) where
               let e : settingPlace t + 0 ≡ settingPlace t = omega arith in
               is ∙ number-in-part settingSize s (settingPlace t) (omega arith) 2 0 (omega arith) ∙ ap (numberAt 2 s) e
 
-  -- the part of a setting passes exactly where what it says is right and its last byte is zero
-  setting-tested : (t : ℕ) → settingPlace t + settingSize ≤ length s
-      → testAt t ≡ (isSetting (settingAt s t) && isZero (getD s (settingPlace t + 5) 0))
+  -- the part of a setting passes exactly where what it says is right
+  setting-tested : (t : ℕ) → settingPlace t + settingSize ≤ length s → testAt t ≡ isSetting (settingAt s t)
   unfolding settingTest isSetting settingAt
   setting-tested t within =
       rw (
         byte-in-part settingSize s (settingPlace t) within 2 (omega arith),
-        byte-in-part settingSize s (settingPlace t) within 5 (omega arith),
         number-in-part settingSize s (settingPlace t) within 2 3 (omega arith),
-        byte-number s (settingPlace t + 5),
+        byte-number s (settingPlace t + 2),
       )
 
-  module _ (within : recordsPlace ≤ length s) where
-    pub tests-settings : allFrom testAt 0 16 ≡ true
-        → (areSettings (eachFrom (settingAt s) 0 16) ≡ true) × ((t : ℕ) → t < 16 → getD s (settingPlace t + 5) 0 ≡ 0)
-    tests-settings all = (
-      settings-each (settingAt s) 0 16 ∙ each-all _ 0 16 (λ t low high. and-first (isSetting (settingAt s t)) _ (it t high)),
-      λ t h. eqb-true _ 0 (and-second (isSetting (settingAt s t)) _ (it t h)),
-    )
-      where
-        it : (t : ℕ) → t < 16 → (isSetting (settingAt s t) && isZero (getD s (settingPlace t + 5) 0)) ≡ true
-        it t h = sym (setting-tested t (omega arith)) ∙ all-each testAt 0 16 all t (omega arith) h
-
-    pub settings-tests : areSettings (eachFrom (settingAt s) 0 16) ≡ true → ((t : ℕ) → t < 16 → getD s (settingPlace t + 5) 0 ≡ 0)
-        → allFrom testAt 0 16 ≡ true
-    settings-tests right zeros =
-        each-all testAt 0 16
-        (λ t low high.
-        setting-tested t (omega arith)
-        ∙ rw (all-each _ 0 16 (sym (settings-each (settingAt s) 0 16) ∙ right) t low high, eq-eqb _ 0 (zeros t high)))
+  pub settings-tested : recordsPlace ≤ length s → areSettings (eachFrom (settingAt s) 0 16) ≡ allFrom testAt 0 16
+  settings-tested within =
+      settings-each (settingAt s) 0 16
+      ∙ sym (same-all testAt (λ (t : ℕ). isSetting (settingAt s t)) 0 16 (λ t low high. setting-tested t (omega arith)))

@@ -15,16 +15,17 @@ use Rattle.bytes.proofs.Every.{and-first, and-second, either, same-tests}
 use Rattle.text.specs.Texts.{sameText}
 use Rattle.text.proofs.SameTexts.{same-refl}
 use Rattle.tenants.specs.declared.Setting.{Setting}
-use Rattle.tenants.specs.Together.{BookRecord, areSettings, quotaSum, areRecords, withinQuotas, isGood}
-use Rattle.layout.specs.Layout.{recordsPlace, bookSize, usedLength, recordCount, settingPlace, recordPlace, settingAt, recordAt, eachFrom, bookOf, isBook}
+use Rattle.tenants.specs.Together.{BookRecord, areSettings, arePrincipals, quotaSum, areRecords, withinQuotas, isGood}
+use Rattle.layout.specs.Layout.{recordsPlace, bookSize, usedLength, recordCount, recordPlace, settingAt, recordAt, eachFrom, bookOf, isBook}
 use Rattle.judging.specs.Starts.{startOf, firstIn}
-use Rattle.judging.specs.Judging.{isZero, allFrom, settingsTest, frameTest, partsFrom}
+use Rattle.judging.specs.Judging.{isZero, allFrom, settingsTest, principalsTest, frameTest, partsFrom}
 use Rattle.judging.specs.declared.Part.the-variants.{Ends}
 use Rattle.layout.proofs.Promises.{undamaged-says}
 use Rattle.layout.proofs.Each.{each-count}
 use Rattle.layout.proofs.Frame.{Frame, frame-written, book-frame}
 use Rattle.judging.proofs.Zeros.{zeros-each, each-zero}
-use Rattle.judging.proofs.SettingTests.{testAt, tests-settings, settings-tests}
+use Rattle.judging.proofs.SettingTests.{testAt, settings-tested}
+use Rattle.judging.proofs.PrincipalTests.{principals-tested}
 use Rattle.judging.proofs.QuotaTests.{within-kept, kept-within}
 use Rattle.judging.proofs.OnePart.{from}
 use Rattle.judging.proofs.AllParts.{PartsSay, parts-say, parts-start}
@@ -36,6 +37,7 @@ pub record Framed (s : List ℕ) : Type 0 where
   pub few : recordCount s ≤ 512
   pub used : numberAt 4 s 1 ≡ usedLength (recordCount s)
   pub settings : settingsTest s ≡ true
+  pub principals : principalsTest s ≡ true
   pub rest : allOf isZero (drop (usedLength (recordCount s)) s) ≡ true
 
 module _ (s : List ℕ) where
@@ -47,8 +49,10 @@ module _ (s : List ℕ) where
       let c = leb (recordCount s) 512 in
       let d = eqb (numberAt 4 s 1) (usedLength (recordCount s)) in
       let e = settingsTest s in
+      let p = principalsTest s in
       let f = allOf isZero (drop (usedLength (recordCount s)) s) in
-      let five = and-first (a && b && c && d && e) f all in
+      let six = and-first (a && b && c && d && e && p) f all in
+      let five = and-first (a && b && c && d && e) p six in
       let four = and-first (a && b && c && d) e five in
       let three = and-first (a && b && c) d four in
       let two = and-first (a && b) c three in
@@ -58,7 +62,8 @@ module _ (s : List ℕ) where
         few = leb-true (recordCount s) 512 (and-second (a && b) c three);
         used = eqb-true (numberAt 4 s 1) (usedLength (recordCount s)) (and-second (a && b && c) d four);
         settings = and-second (a && b && c && d) e five;
-        rest = and-second (a && b && c && d && e) f all;
+        principals = and-second (a && b && c && d && e) p six;
+        rest = and-second (a && b && c && d && e && p) f all;
       }
 
   pub framed-test : Framed s → frameTest s ≡ true
@@ -70,6 +75,7 @@ module _ (s : List ℕ) where
         le-leb (recordCount s) 512 (framed .few),
         eq-eqb (numberAt 4 s 1) (usedLength (recordCount s)) (framed .used),
         framed .settings,
+        framed .principals,
       )
       (framed .rest)
 
@@ -110,6 +116,7 @@ module _ (s : List ℕ) (below : Below 256 s) where
 
     record Said : Type 0 where
       settings-right : areSettings settings ≡ true
+      principals-right : arePrincipals settings 0 settings ≡ true
       sum : leb (quotaSum settings) 512 ≡ true
       records-right : areRecords records ≡ true
       quotas : withinQuotas 0 settings records ≡ true
@@ -120,16 +127,19 @@ module _ (s : List ℕ) (below : Below 256 s) where
         let good = undamaged-says s undamaged .0 in
         let a = eqb (length settings) 16 in
         let b = areSettings settings in
+        let p = arePrincipals settings 0 settings in
         let c = leb (quotaSum settings) 512 in
         let d = leb (length records) 512 in
         let e = areRecords records in
-        let five = and-first (a && b && c && d && e) (withinQuotas 0 settings records) good in
-        let three = and-first (a && b && c) d (and-first (a && b && c && d) e five) in
+        let six = and-first (a && b && p && c && d && e) (withinQuotas 0 settings records) good in
+        let four = and-first (a && b && p && c) d (and-first (a && b && p && c && d) e six) in
+        let three = and-first (a && b && p) c four in
         record {
-          settings-right = and-second a b (and-first (a && b) c three);
-          sum = and-second (a && b) c three;
-          records-right = and-second (a && b && c && d) e five;
-          quotas = and-second (a && b && c && d && e) (withinQuotas 0 settings records) good;
+          settings-right = and-second a b (and-first (a && b) p three);
+          principals-right = and-second (a && b) p three;
+          sum = and-second (a && b && p) c four;
+          records-right = and-second (a && b && p && c && d) e six;
+          quotas = and-second (a && b && p && c && d && e) (withinQuotas 0 settings records) good;
         }
 
     pub book-framed : Framed s
@@ -139,7 +149,8 @@ module _ (s : List ℕ) (below : Below 256 s) where
       version = frame .version;
       few = frame .few;
       used = frame .used;
-      settings = rw (settings-tests s (omega (arith, frame .size)) (said .settings-right) (frame .settings), said .sum);
+      settings = rw (sym (settings-tested s (omega (arith, frame .size))) ∙ said .settings-right, said .sum);
+      principals = sym (principals-tested s) ∙ said .principals-right;
       rest = each-zero s (usedLength n) (frame .rest);
     }
 
@@ -163,10 +174,10 @@ module _ (s : List ℕ) (below : Below 256 s) where
     says : PartsSay s below n inside 0 0
     says = parts-say s below n inside 16 0 0 (omega arith) (omega arith) parts
 
-    tested-settings : (areSettings settings ≡ true) × ((t : ℕ) → t < 16 → getD s (settingPlace t + 5) 0 ≡ 0)
+    tested-settings : areSettings settings ≡ true
     tested-settings =
-        tests-settings s (omega (arith, framed .size))
-        (and-first (allFrom (testAt s) 0 16) (leb (quotaSum settings) 512) (unfold settingsTest in framed .settings))
+        settings-tested s (omega (arith, framed .size))
+        ∙ and-first (allFrom (testAt s) 0 16) (leb (quotaSum settings) 512) (unfold settingsTest in framed .settings)
 
     so-framed : Frame s
     so-framed = record {
@@ -174,7 +185,6 @@ module _ (s : List ℕ) (below : Below 256 s) where
       version = framed .version;
       used = framed .used;
       few = framed .few;
-      settings = tested-settings .1;
       records = λ i high. says .zeros i (omega arith) high;
       rest = zeros-each s (usedLength n) (framed .rest);
     }
@@ -185,7 +195,8 @@ module _ (s : List ℕ) (below : Below 256 s) where
         let same = whole inside in
         rw (
           eq-eqb (length settings) 16 (each-count (settingAt s) 0 16),
-          tested-settings .0,
+          tested-settings,
+          principals-tested s ∙ framed .principals,
           and-second (allFrom (testAt s) 0 16) (leb (quotaSum settings) 512) (unfold settingsTest in framed .settings),
           le-leb (length records) 512 (omega (arith, each-count (recordAt s) 0 n, framed .few)),
           sym (ap areRecords same) ∙ says .right,

@@ -9,8 +9,8 @@ use Rattle.bytes.specs.Places.{numberAt}
 use Rattle.text.specs.Texts.{part}
 use Rattle.dates.specs.Notice.{isDays}
 use Rattle.forms.specs.Identifiers.{isCellName, isServerId}
-use Rattle.tenants.specs.Together.{quotaSum}
-use Rattle.layout.specs.Layout.{settingSize, settingPlace, recordSize, bookSize, usedLength, settingAt, recordCount, eachFrom}
+use Rattle.tenants.specs.Together.{isPrincipal, quotaSum}
+use Rattle.layout.specs.Layout.{settingSize, settingPlace, recordSize, bookSize, usedLength, settingAt, recordCount, eachFrom, bookOf}
 use Rattle.judging.specs.declared.Part.{Part}
 use Rattle.judging.specs.declared.Part.the-variants.{Ends, Wrong}
 
@@ -27,19 +27,27 @@ unfoldable pub allFrom : (ℕ → Bool) → ℕ → ℕ → Bool
 allFrom test i zero = true
 allFrom test i (suc n) = test i && allFrom test (suc i) n
 
--- the bytes of one setting: warning days, a Data Server ID, a zero
+-- the bytes of one setting: warning days, a Data Server ID
 unfoldable pub settingTest : List ℕ → Bool
-settingTest p = isDays (getD p 2 0) && isServerId (numberAt 2 p 3) && isZero (getD p 5 0)
+settingTest p = isDays (getD p 2 0) && isServerId (numberAt 2 p 3)
 
 -- the sixteen settings, whose quotas sum to at most 512
 unfoldable pub settingsTest : List ℕ → Bool
 settingsTest s = allFrom (λ (t : ℕ). settingTest (settingPart s t)) 0 16 && leb (quotaSum (eachFrom (settingAt s) 0 16)) 512
 
--- all but the records: the length, version 1, a used length for at most 512 records, the settings, zeros past the used length
+-- the principal that tenant t names
+abbrev pub principalTest : List ℕ → ℕ → Bool
+principalTest s t = isPrincipal (bookOf s .settings) t (settingAt s t)
+
+-- the sixteen principals
+unfoldable pub principalsTest : List ℕ → Bool
+principalsTest s = allFrom (principalTest s) 0 16
+
+-- all but the records: the length, version 1, a used length for at most 512 records, the settings, the principals, zeros past the used length
 unfoldable pub frameTest : List ℕ → Bool
 frameTest s =
     eqb (length s) bookSize && eqb (getD s 0 0) 1 && leb (recordCount s) 512 && eqb (numberAt 4 s 1) (usedLength (recordCount s))
-    && settingsTest s && allOf isZero (drop (usedLength (recordCount s)) s)
+    && settingsTest s && principalsTest s && allOf isZero (drop (usedLength (recordCount s)) s)
 
 -- the bytes of one cell, after a record of this name: a higher name that is a cell name, and an edition
 unfoldable pub cellTest : List ℕ → ℕ → Bool

@@ -1,10 +1,10 @@
--- What judging a book answers: whether it is undamaged, and where a tenant's records stand in it.
+-- What judging a book answers: whether it is undamaged, and where the records stand that a tenant reads.
 use mathlib.Core.Bool.{cond}
 use mathlib.Core.List.{List, [], _∷_}
 use Prim.Native.Nat.{ℕ, suc, _+_}
 use lib.Dec.{ltb}
 use Rattle.tenants.specs.Together.{BookRecord, tenantOf}
-use Rattle.layout.specs.Layout.{bookOf, isBook}
+use Rattle.layout.specs.Layout.{bookOf, isBook, listIn}
 use Rattle.judging.specs.declared.Judged.{Judged}
 use Rattle.judging.specs.declared.Judged.the-variants.{Records, Damaged}
 
@@ -13,7 +13,7 @@ unfoldable pub startOf : ℕ → List BookRecord → ℕ
 startOf t [] = 0
 startOf t (r ∷ records) = cond (ltb (tenantOf r) t) 1 0 + startOf t records
 
--- where tenant t's records begin in a book
+-- where the records under tenant t's number begin in a book
 abbrev pub firstIn : List ℕ → ℕ → ℕ
 firstIn s t = startOf t (bookOf s .records)
 
@@ -21,6 +21,10 @@ firstIn s t = startOf t (bookOf s .records)
 abbrev pub pastIn : List ℕ → ℕ → ℕ
 pastIn s t = firstIn s (suc t)
 
--- what judging the book for tenant t finds
-unfoldable pub judged : List ℕ → ℕ → Judged
-judged s t = cond (isBook s) (Records (firstIn s t) (pastIn s t)) Damaged
+-- what judging the book finds for those under tenant t's number
+unfoldable pub judgedUnder : List ℕ → ℕ → Judged
+judgedUnder s t = cond (isBook s) (Records (firstIn s t) (pastIn s t)) Damaged
+
+-- and for tenant t: where the list stands that it reads
+abbrev pub judged : List ℕ → ℕ → Judged
+judged s t = judgedUnder s (listIn s t)

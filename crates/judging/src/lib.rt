@@ -1,13 +1,13 @@
-// Judging a book: whether its bytes are undamaged, and where a tenant's records stand in it.
+// Judging a book: whether its bytes are undamaged, and where the records stand that a tenant reads.
 ghost use mathlib.Core.Path.{_≡_};
 ghost use mathlib.Core.Bool.{cond};
-ghost use Prim.Native.Nat.{_-_, _/_, _%_, _≤_};
+ghost use Prim.Native.Nat.{_-_, _/_, _%_, _≤_, _<_};
 ghost use lib.Dec.{leb};
 ghost use lib.ListN.{length};
 ghost use Rattle.bytes.specs.Every.{allOf};
 ghost use Rattle.layout.specs.Layout.{recordsPlace, recordSize, bookSize, isBook};
-ghost use Rattle.judging.specs.Starts.{judged};
-ghost use Rattle.judging.specs.Judging.{isZero, settingTest, settingsTest, frameTest, cellTest, spareOf, partFrom, partsFrom, upTo16};
+ghost use Rattle.judging.specs.Starts.{judgedUnder, judged};
+ghost use Rattle.judging.specs.Judging.{isZero, settingTest, settingsTest, principalTest, principalsTest, frameTest, cellTest, spareOf, partFrom, partsFrom, upTo16};
 ghost use Rattle.judging.specs.declared.Part.the-variants.{Ends, Wrong};
 use bytes::numbers::number16;
 use bytes::numbers::number32;
@@ -21,9 +21,10 @@ use layout::RECORDS_PLACE;
 use layout::SETTING_SIZE;
 use layout::SETTINGS_PLACE;
 use layout::count;
+use layout::list_of;
 use text::reading::byte_at;
 
-// What judging a book for a tenant finds: from which record on, and up to which, its own stand; or that the book is damaged.
+// What judging a book for a tenant finds: from which record on, and up to which, those stand that it reads; or that the book is damaged.
 pub enum Judged {
     Records { first: u32, past: u32 },
     Damaged,
@@ -49,10 +50,7 @@ fn is_setting(part: &[u8]) -> bool
     if !dates::is_days(byte_at(part, 2) as u32) {
         return false;
     }
-    if !is_server_id(number16(part, 3) as u32) {
-        return false;
-    }
-    byte_at(part, 5) == 0
+    is_server_id(number16(part, 3) as u32)
 }
 
 // Whether the sixteen settings are right, and their quotas sum to at most 512.
@@ -74,7 +72,40 @@ fn are_settings(book: &[u8]) -> bool
     sum <= 512
 }
 
-// Whether all but the records is right: length, version, used length, settings, and zeros past the used length.
+// Whether tenant t may name the principal that it names: none; or a tenant that names none itself, so not t, and then t's quota is 0.
+fn is_principal(book: &[u8], t: usize) -> bool
+    requires { ⌜ t < 16 ⌝ }
+    ensures { λ r. ⌜ r ≡ principalTest (now (book .entry)) t ⌝ }
+{
+    let at = SETTINGS_PLACE + SETTING_SIZE * t;
+    let principal = byte_at(book, at + 5) as usize;
+    if principal == 0 {
+        return true;
+    }
+    if 16 < principal {
+        return false;
+    }
+    if number16(book, at) != 0 {
+        return false;
+    }
+    byte_at(book, SETTINGS_PLACE + SETTING_SIZE * (principal - 1) + 5) == 0
+}
+
+// Whether each of the sixteen tenants may.
+fn are_principals(book: &[u8]) -> bool
+    ensures { λ r. ⌜ r ≡ principalsTest (now (book .entry)) ⌝ }
+{
+    let mut t: usize = 0;
+    while t < 16 {
+        if !is_principal(book, t) {
+            return false;
+        }
+        t += 1;
+    }
+    true
+}
+
+// Whether all but the records is right: length, version, used length, settings, principals, and zeros past the used length.
 fn is_frame(book: &[u8]) -> bool
     ensures { λ r. ⌜ r ≡ frameTest (now (book .entry)) ⌝ }
 {
@@ -92,6 +123,9 @@ fn is_frame(book: &[u8]) -> bool
         return false;
     }
     if !are_settings(book) {
+        return false;
+    }
+    if !are_principals(book) {
         return false;
     }
     is_zero(&book[RECORDS_PLACE + RECORD_SIZE * n..])
@@ -202,9 +236,9 @@ fn record_at(place: usize) -> u32
     ((place - RECORDS_PLACE) / RECORD_SIZE) as u32
 }
 
-// Judges a book, and tells where a tenant's records stand in it: after the parts of those below, and before those of the others.
-pub fn judge(book: &[u8], tenant: u32) -> Judged
-    ensures { λ r. ⌜ r ≡ judged (now (book .entry)) tenant ⌝ }
+// Judges a book, and tells where the records under a tenant's number stand in it: after the parts of those below, and before those of the others.
+fn judge_under(book: &[u8], tenant: u32) -> Judged
+    ensures { λ r. ⌜ r ≡ judgedUnder (now (book .entry)) tenant ⌝ }
 {
     if !is_frame(book) {
         return Judged::Damaged;
@@ -230,11 +264,18 @@ pub fn judge(book: &[u8], tenant: u32) -> Judged
     }
 }
 
+// Judges a book, and tells where the records stand that a tenant reads: its principal's where it is a branch, and else its own.
+pub fn judge(book: &[u8], tenant: u32) -> Judged
+    ensures { λ r. ⌜ r ≡ judged (now (book .entry)) tenant ⌝ }
+{
+    judge_under(book, list_of(book, tenant))
+}
+
 // Whether the bytes are an undamaged book.
 pub fn is_book(book: &[u8]) -> bool
     ensures { λ r. ⌜ r ≡ isBook (now (book .entry)) ⌝ }
 {
-    match judge(book, 0) {
+    match judge_under(book, 0) {
         Judged::Records { first: _, past: _ } => true,
         Judged::Damaged => false,
     }

@@ -43,7 +43,7 @@ module _ (s : List ℕ) where
   unfolding recordAt
   record-name i below = name-of-nine (recordPlace i) below
 
-  book-setting : (t : ℕ) (none : Setting) → t < 16 → getD (bookOf s .settings) t none ≡ settingAt s t
+  pub book-setting : (t : ℕ) (none : Setting) → t < 16 → getD (bookOf s .settings) t none ≡ settingAt s t
   unfolding bookOf
   book-setting t none h = each-is (settingAt s) 16 t none h
 

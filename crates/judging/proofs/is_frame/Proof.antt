@@ -59,6 +59,14 @@ returns-5 c =
     sym (test-fails _ _
     (λ framed. c .before .are-settings .ensures ∙ framed .settings) (not-true _ (c .if5 .taken)))
 
+are-principals-requires : tie.Need-are-principals-requires
+are-principals-requires c κs = search needs
+
+returns-6 : tie.Need-returns-6
+returns-6 c =
+    sym (test-fails _ _
+    (λ framed. c .before .are-principals .ensures ∙ framed .principals) (not-true _ (c .if6 .taken)))
+
 mul-is-zero : tie.Need-mul-is-zero
 mul-is-zero c = search needs
 
@@ -77,10 +85,11 @@ part-is-zero-end c = search needs
 is-zero-requires : tie.Need-is-zero-requires
 is-zero-requires c κs = search needs
 
-returns-6 : tie.Need-returns-6
-returns-6 c =
+returns-7 : tie.Need-returns-7
+returns-7 c =
     let last = c .before .before in
-    let settings = last .before in
+    let principals = last .before in
+    let settings = principals .before .before in
     let counted = settings .before .before .before .before in
     let book = counted .before .before .before .before .before .args .book .now in
     let used = usedLength (counted .count .result) in
@@ -96,7 +105,8 @@ returns-6 c =
       version = counted .before .if2 .left;
       few = omega (arith, n, settings .before .before .before .if3 .left);
       used = sym (settings .before .before .number32 .ensures) ∙ settings .before .if4 .left ∙ ap usedLength n;
-      settings = sym (settings .are-settings .ensures) ∙ not-false _ (last .if5 .left);
+      settings = sym (settings .are-settings .ensures) ∙ not-false _ (principals .before .if5 .left);
+      principals = sym (principals .are-principals .ensures) ∙ not-false _ (last .if6 .left);
       rest = sym tested ∙ zeros;
     })
 
@@ -116,10 +126,12 @@ is-frame-spec =
     returns-4
     are-settings-requires
     returns-5
+    are-principals-requires
+    returns-6
     mul-is-zero
     add-is-zero
     sub-is-zero
     part-is-zero-start
     part-is-zero-end
     is-zero-requires
-    returns-6)
+    returns-7)

@@ -7,7 +7,7 @@ use borrow.Author.Tests.{not-true, not-false}
 use Rattle.bytes.specs.Places.{numberAt}
 use Rattle.dates.specs.Notice.{isDays}
 use Rattle.forms.specs.Identifiers.{isServerId}
-use Rattle.judging.proofs.SettingTests.{no-days, no-server, by-last-byte}
+use Rattle.judging.proofs.SettingTests.{no-days, by-server}
 use Rattle.judging.proofs.is_setting.Statement.{statement}
 use Rattle.judging.proofs.is_setting.Tie as tie
 
@@ -41,29 +41,10 @@ is-server-id-requires c κs = search needs
 
 returns-2 : tie.Need-returns-2
 returns-2 c =
-    let fit = c .before .before .before in
-    sym (no-server _ _ (days (fit .before)) (not-false _ (fit .if1 .left)) _ (server (c .before)) (not-true _ (c .if2 .taken)))
-
-byte-at-requires-2 : tie.Need-byte-at-requires-2
-byte-at-requires-2 c κs = search needs
-
-returns-3 : tie.Need-returns-3
-returns-3 c =
-    let fit = c .before .before .before .before in
-    by-last-byte _ _ (days (fit .before)) (not-false _ (fit .if1 .left)) _ (server (c .before .before))
-    (not-false _ (c .before .if2 .left)) _ (c .byte-at2 .ensures)
+    let fit = c .before .before in
+    by-server _ _ (days (fit .before)) (not-false _ (fit .if1 .left)) _ (server c)
 
 pub is-setting-spec : {M : Type 1} → statement M
 is-setting-spec =
     tie.close
-    (tie.spec
-    byte-at-requires
-    cast-is-days
-    is-days-requires
-    returns
-    number16-requires
-    cast-is-server-id
-    is-server-id-requires
-    returns-2
-    byte-at-requires-2
-    returns-3)
+    (tie.spec byte-at-requires cast-is-days is-days-requires returns number16-requires cast-is-server-id is-server-id-requires returns-2)
