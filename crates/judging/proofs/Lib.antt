@@ -1,6 +1,5 @@
 pub mod Parts
 pub mod Zeros
-pub mod AllFrom
 pub mod SettingTests
 pub mod PrincipalTests
 pub mod RecordTests

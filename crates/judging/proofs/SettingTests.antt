@@ -14,11 +14,11 @@ use Rattle.dates.specs.Notice.{isDays}
 use Rattle.forms.specs.Identifiers.{isServerId}
 use Rattle.tenants.specs.declared.Setting.{Setting}
 use Rattle.tenants.specs.Together.{isSetting, areSettings}
-use Rattle.layout.specs.Layout.{settingSize, settingPlace, recordsPlace, settingAt, eachFrom}
-use Rattle.judging.specs.Judging.{settingPart, allFrom, settingTest, settingsTest}
+use Rattle.layout.specs.Layout.{settingSize, settingPlace, recordsPlace, settingAt, eachFrom, allFrom}
+use Rattle.judging.specs.Judging.{settingPart, settingTest, settingsTest}
 use Rattle.layout.proofs.Told.{byte-number}
 use Rattle.judging.proofs.Parts.{number-in-part, byte-in-part}
-use Rattle.judging.proofs.AllFrom.{Passed, passed-none, passed-next, passed-all, one-fails, same-all}
+use Rattle.layout.proofs.AllFrom.{Passed, passed-none, passed-next, passed-all, one-fails, same-all}
 use Rattle.layout.proofs.QuotaSums.{Summed, summed-none, summed-next, summed-all}
 
 module _ (p : List ℕ) (days : Bool) (is : days ≡ isDays (getD p 2 0)) where

@@ -16,9 +16,9 @@ use Rattle.text.specs.Texts.{sameText}
 use Rattle.text.proofs.SameTexts.{same-refl}
 use Rattle.tenants.specs.declared.Setting.{Setting}
 use Rattle.tenants.specs.Together.{BookRecord, areSettings, arePrincipals, quotaSum, areRecords, withinQuotas, isGood}
-use Rattle.layout.specs.Layout.{recordsPlace, bookSize, usedLength, recordCount, recordPlace, settingAt, recordAt, eachFrom, bookOf, isBook}
+use Rattle.layout.specs.Layout.{recordsPlace, bookSize, usedLength, recordCount, recordPlace, settingAt, recordAt, eachFrom, bookOf, isBook, allFrom}
 use Rattle.judging.specs.Starts.{startOf, firstIn}
-use Rattle.judging.specs.Judging.{isZero, allFrom, settingsTest, principalsTest, frameTest, partsFrom}
+use Rattle.judging.specs.Judging.{isZero, settingsTest, principalsTest, frameTest, partsFrom}
 use Rattle.judging.specs.declared.Part.the-variants.{Ends}
 use Rattle.layout.proofs.Promises.{undamaged-says}
 use Rattle.layout.proofs.Each.{each-count}

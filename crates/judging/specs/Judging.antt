@@ -10,7 +10,7 @@ use Rattle.text.specs.Texts.{part}
 use Rattle.dates.specs.Notice.{isDays}
 use Rattle.forms.specs.Identifiers.{isCellName, isServerId}
 use Rattle.tenants.specs.Together.{isPrincipal, quotaSum}
-use Rattle.layout.specs.Layout.{settingSize, settingPlace, recordSize, bookSize, usedLength, settingAt, recordCount, eachFrom, bookOf}
+use Rattle.layout.specs.Layout.{settingSize, settingPlace, recordSize, bookSize, usedLength, settingAt, recordCount, eachFrom, allFrom, bookOf}
 use Rattle.judging.specs.declared.Part.{Part}
 use Rattle.judging.specs.declared.Part.the-variants.{Ends, Wrong}
 
@@ -21,11 +21,6 @@ settingPart s t = part settingSize s (settingPlace t)
 -- the byte is zero
 abbrev pub isZero : ℕ → Bool
 isZero b = eqb b 0
-
--- the test passes at i, i + 1 and so on, n in all
-unfoldable pub allFrom : (ℕ → Bool) → ℕ → ℕ → Bool
-allFrom test i zero = true
-allFrom test i (suc n) = test i && allFrom test (suc i) n
 
 -- the bytes of one setting: warning days, a Data Server ID
 unfoldable pub settingTest : List ℕ → Bool

@@ -1,4 +1,5 @@
 pub mod Each
+pub mod AllFrom
 pub mod Told
 pub mod Sizes
 pub mod Fits

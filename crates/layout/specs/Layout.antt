@@ -1,5 +1,5 @@
 -- The book in bytes: how it is written, how it is read, and which bytes are an undamaged book.
-use mathlib.Core.Bool.{Bool, _&&_}
+use mathlib.Core.Bool.{Bool, true, _&&_}
 use mathlib.Core.List.{List, [], _∷_, _++_}
 use Prim.Native.Nat.{ℕ, zero, suc, _+_, _-_, _*_, _/_}
 use lib.Dec.{eqb}
@@ -94,6 +94,11 @@ recordCount s = (numberAt 4 s 1 - recordsPlace) / recordSize
 unfoldable pub eachFrom : {A : Type 0} → (ℕ → A) → ℕ → ℕ → List A
 eachFrom at i zero = []
 eachFrom at i (suc n) = at i ∷ eachFrom at (suc i) n
+
+-- the test passes at i, i + 1 and so on, n in all
+unfoldable pub allFrom : (ℕ → Bool) → ℕ → ℕ → Bool
+allFrom test i zero = true
+allFrom test i (suc n) = test i && allFrom test (suc i) n
 
 -- what the bytes say
 unfoldable pub bookOf : List ℕ → Book

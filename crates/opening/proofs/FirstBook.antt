@@ -49,9 +49,9 @@ module _ {s₀ : List ℕ} where
         sym (take-all i s done) ∙ so-far .clear ∙ ap zeros all
 
 pub six-bytes : (s : Setting)
-    → s .quota / 256 % 256 ∷ s .quota % 256 ∷ s .days % 256 ∷ s .server / 256 % 256 ∷ s .server % 256 ∷ 0 ∷ [] ≡ settingBytes s
+    → s .quota / 256 % 256 ∷ s .quota % 256 ∷ s .days % 256 ∷ s .server / 256 % 256 ∷ s .server % 256 ∷ s .principal % 256 ∷ [] ≡ settingBytes s
 unfolding settingBytes digits
-six-bytes s = sym (rw (div-one (s .quota), div-one (s .days), div-one (s .server)))
+six-bytes s = sym (rw (div-one (s .quota), div-one (s .days), div-one (s .server), div-one (s .principal)))
 
 -- zeros past n of them
 drop-zeros : (n m size : ℕ) → size ≡ n + m → drop n (zeros size) ≡ zeros m
@@ -64,17 +64,17 @@ drop-zeros n m size e =
 abbrev start : List ℕ
 start = 1 ∷ 0 ∷ 0 ∷ 0 ∷ 101 ∷ []
 
-module _ (quotas ids : List ℕ) where
+module _ (quotas ids principals : List ℕ) where
   -- the bytes of the settings of n tenants from t on
   abbrev firstBytes : ℕ → ℕ → List ℕ
-  firstBytes t n = allBytes settingBytes (eachFrom (firstSetting quotas ids) t n)
+  firstBytes t n = allBytes settingBytes (eachFrom (firstSetting quotas ids principals) t n)
 
   -- s with these put at their place
   abbrev putFrom : ℕ → ℕ → List ℕ → List ℕ
   putFrom t n s = placed (settingPlace t) (firstBytes t n) s
 
   first-size : (t n : ℕ) → length (firstBytes t n) ≡ 6 * n
-  first-size t n = settings-size (eachFrom (firstSetting quotas ids) t n) ∙ ap (λ (m : ℕ). 6 * m) (each-count (firstSetting quotas ids) t n)
+  first-size t n = settings-size (eachFrom (firstSetting quotas ids principals) t n) ∙ ap (λ (m : ℕ). 6 * m) (each-count (firstSetting quotas ids principals) t n)
 
   -- s has the settings of the tenants before t, and with those from t on it has them all
   pub record SettingsPut (s₀ s : List ℕ) (t : ℕ) : Type 0 where
@@ -87,17 +87,17 @@ module _ (quotas ids : List ℕ) where
   settings-none room = record { few = omega arith; room = room; same = refl; rest = refl }
 
   module _ {s₀ s : List ℕ} {t : ℕ} (so-far : SettingsPut s₀ s t) where
-    pub settings-next : t < 16 → (x : Setting) (s₁ : List ℕ) → x ≡ firstSetting quotas ids t
+    pub settings-next : t < 16 → (x : Setting) (s₁ : List ℕ) → x ≡ firstSetting quotas ids principals t
         → s₁ ≡ placed (settingPlace t) (settingBytes x) s → SettingsPut s₀ s₁ (t + 1)
     unfolding eachFrom allBytes
     settings-next more x s₁ is written =
         let count : 16 - t ≡ suc (16 - (t + 1)) = omega arith in
         let next : suc t ≡ t + 1 = omega arith in
-        let one = settingBytes (firstSetting quotas ids t) in
+        let one = settingBytes (firstSetting quotas ids principals t) in
         let put : s₁ ≡ placed (settingPlace t) one s = written ∙ ap (λ (y : Setting). placed (settingPlace t) (settingBytes y) s) is in
         let size : length s₁ ≡ length s = ap length put ∙ length-placed (settingPlace t) one s in
         let after = firstBytes (t + 1) (16 - (t + 1)) in
-        let one-size : length one ≡ 6 = setting-size (firstSetting quotas ids t) in
+        let one-size : length one ≡ 6 = setting-size (firstSetting quotas ids principals t) in
         let after-size : length after ≡ 6 * (16 - (t + 1)) = first-size (t + 1) (16 - (t + 1)) in
         record {
           few = omega arith;
@@ -118,7 +118,7 @@ module _ (quotas ids : List ℕ) where
         sym (placed-none (settingPlace t) s) ∙ ap (λ (n : ℕ). putFrom t n s) none ∙ so-far .rest
 
   abbrev emptyBytes : List ℕ
-  emptyBytes = bookBytes (emptyBook quotas ids)
+  emptyBytes = bookBytes (emptyBook quotas ids principals)
 
   empty-is : emptyBytes ≡ (start ++ firstBytes 0 16) ++ zeros 12288
   unfolding bookBytes emptyBook allBytes digits
@@ -141,21 +141,21 @@ module _ (quotas ids : List ℕ) where
 
   empty-size : length emptyBytes ≡ bookSize
   unfolding emptyBook
-  empty-size = book-size (emptyBook quotas ids) (each-count (firstSetting quotas ids) 0 16) (omega arith)
+  empty-size = book-size (emptyBook quotas ids principals) (each-count (firstSetting quotas ids principals) 0 16) (omega arith)
 
   -- the answer and the book afterwards
   abbrev pub Opened : List ℕ → ℕ → List ℕ → Type 0
-  Opened s n after = (n ≡ writtenNumber (writtenOf (opened quotas ids s))) × (after ≡ lentAfter (opened quotas ids s) s)
+  Opened s n after = (n ≡ writtenNumber (writtenOf (opened quotas ids principals s))) × (after ≡ lentAfter (opened quotas ids principals s) s)
 
   pub wrong-length : (s : List ℕ) → (length s ≡ bookSize → ⊥) → Opened s 101 s
   unfolding opened
   wrong-length s other = (rw (ne-eqb (length s) bookSize other), rw (ne-eqb (length s) bookSize other))
 
-  pub not-given : (s : List ℕ) → length s ≡ bookSize → areGiven quotas ids ≡ false → Opened s 103 s
+  pub not-given : (s : List ℕ) → length s ≡ bookSize → areGiven quotas ids principals ≡ false → Opened s 103 s
   unfolding opened
   not-given s size bad = (rw (eq-eqb (length s) bookSize size, bad), rw (eq-eqb (length s) bookSize size, bad))
 
-  pub given : (s after : List ℕ) → length s ≡ bookSize → areGiven quotas ids ≡ true → after ≡ emptyBytes → Opened s 0 after
+  pub given : (s after : List ℕ) → length s ≡ bookSize → areGiven quotas ids principals ≡ true → after ≡ emptyBytes → Opened s 0 after
   unfolding opened
   given s after size good is =
       let nothing-left : drop (length emptyBytes) s ≡ [] = drop-of-length-le s {i = length emptyBytes} (omega (arith, empty-size)) in (

@@ -19,12 +19,14 @@ use Rattle.forms.specs.Order.{demand}
 use Rattle.forms.specs.Identifiers.{isServerId}
 use Rattle.forms.specs.Output.{text, refusal}
 use Rattle.forms.proofs.NamesAt.{name-at}
+use Rattle.tenants.specs.declared.Setting.{Setting}
 use Rattle.tenants.specs.Together.{cellsOf, noSetting, isSetting, quotaSum, isGood}
 use Rattle.tenants.proofs.Goodness.{Good, facts-good}
 use Rattle.layout.specs.Layout.{bookSize, bookBytes}
 use Rattle.layout.proofs.Each.{each-count, each-is}
+use Rattle.layout.proofs.AllFrom.{all-each, principals-each}
 use Rattle.layout.proofs.Promises.{good-reads-back}
-use Rattle.opening.specs.Opening.{firstSetting, emptyBook, areGiven, opened, OpensEmpty}
+use Rattle.opening.specs.Opening.{firstSetting, firstSettings, emptyBook, areGiven, opened, OpensEmpty}
 
 all-part : (test : ℕ → Bool) (n : ℕ) (s : List ℕ) (at : ℕ) → allOf test s ≡ true → allOf test (part n s at) ≡ true
 all-part test n s at all =
@@ -36,35 +38,40 @@ all-part test n s at all =
         and-second (allOf test (take at s)) (allOf test (drop at s))
         (sym (all-append test (take at s) (drop at s)) ∙ ap (allOf test) (take-append-drop at s) ∙ all)
 
-module _ (quotas ids : List ℕ) where
+module _ (quotas ids principals : List ℕ) where
   module _ (long : length ids ≡ 32) (all : allOf isNameCharacter ids ≡ true) where
     server-given : (t : ℕ) → t < 16 → isServerId (numberAt 2 ids (2 * t)) ≡ true
     server-given t h =
         name-at 2 ids (2 * t) (all-at-place isNameCharacter 2 ids (2 * t) (omega arith) (all-part isNameCharacter 2 ids (2 * t) all))
 
-    setting-given : (t : ℕ) → t < 16 → isSetting (firstSetting quotas ids t) ≡ true
+    setting-given : (t : ℕ) → t < 16 → isSetting (firstSetting quotas ids principals t) ≡ true
     unfolding isSetting isDays
     setting-given t h = server-given t h
 
 -- what is given makes a good book
-given-good : (quotas ids : List ℕ) → areGiven quotas ids ≡ true → Good (emptyBook quotas ids)
+given-good : (quotas ids principals : List ℕ) → areGiven quotas ids principals ≡ true → Good (emptyBook quotas ids principals)
 unfolding areGiven emptyBook cellsOf
-given-good quotas ids given = record {
-  sixteen = each-count (firstSetting quotas ids) 0 16;
+given-good quotas ids principals given = record {
+  sixteen = each-count (firstSetting quotas ids principals) 0 16;
   each-setting = each;
-  sum = leb-true (quotaSum (emptyBook quotas ids .settings)) 512 (search (and-first, and-second));
+  named = λ t h. rw (each-is (firstSetting quotas ids principals) 16 t noSetting h)
+      (all-each _ 0 16 (sym (principals-each settings (firstSetting quotas ids principals) 0 16) ∙ search (and-first, and-second)) t (omega arith) h);
+  sum = leb-true (quotaSum (emptyBook quotas ids principals .settings)) 512 (search (and-first, and-second));
   count = omega arith;
   sorted = tt;
   each-record = tt;
   within = λ t h. omega arith;
 }
   where
+    settings : List Setting
+    settings = firstSettings quotas ids principals
+
     long : length ids ≡ 32
     long = eqb-true (length ids) 32 (search (and-first, and-second))
 
-    each : (t : ℕ) → t < 16 → isSetting (getD (emptyBook quotas ids .settings) t noSetting) ≡ true
+    each : (t : ℕ) → t < 16 → isSetting (getD (emptyBook quotas ids principals .settings) t noSetting) ≡ true
     each t h =
-        rw (each-is (firstSetting quotas ids) 16 t noSetting h) (setting-given quotas ids long (search (and-first, and-second)) t h)
+        rw (each-is (firstSetting quotas ids principals) 16 t noSetting h) (setting-given quotas ids principals long (search (and-first, and-second)) t h)
 
 -- what opening answers with a book was not refused
 written : (size given : Bool) (bytes book : List ℕ) → demand size (refusal 101) (demand given (refusal 103) (text bytes)) ≡ text book
@@ -73,14 +80,14 @@ written true true bytes book made = (refl, cc)
 written true false bytes book made = (cc, cc)
 written false given bytes book made = (cc, cc)
 
-pub opened-given : (quotas ids s book : List ℕ) → opened quotas ids s ≡ text book
-    → (isGood (emptyBook quotas ids) ≡ true) × (bookBytes (emptyBook quotas ids) ≡ book)
+pub opened-given : (quotas ids principals s book : List ℕ) → opened quotas ids principals s ≡ text book
+    → (isGood (emptyBook quotas ids principals) ≡ true) × (bookBytes (emptyBook quotas ids principals) ≡ book)
 unfolding opened
-opened-given quotas ids s book made =
-    let it = written (eqb (length s) bookSize) (areGiven quotas ids) (bookBytes (emptyBook quotas ids)) book made in
-    (facts-good (emptyBook quotas ids) (given-good quotas ids (it .0)), it .1)
+opened-given quotas ids principals s book made =
+    let it = written (eqb (length s) bookSize) (areGiven quotas ids principals) (bookBytes (emptyBook quotas ids principals)) book made in
+    (facts-good (emptyBook quotas ids principals) (given-good quotas ids principals (it .0)), it .1)
 
 pub opens-empty : OpensEmpty
-opens-empty quotas ids s book made =
-    let it = opened-given quotas ids s book made in
-    rw (it .1) at (good-reads-back (emptyBook quotas ids) (it .0))
+opens-empty quotas ids principals s book made =
+    let it = opened-given quotas ids principals s book made in
+    rw (it .1) at (good-reads-back (emptyBook quotas ids principals) (it .0))

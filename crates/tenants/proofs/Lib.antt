@@ -3,6 +3,7 @@ pub mod OwnCells
 pub mod Ranges
 pub mod Allowed
 pub mod Goodness
+pub mod Principals
 pub mod Kept
 pub mod Room
 pub mod Counts

@@ -6,7 +6,7 @@ use native.Mathlib.Omega.{arith}
 use borrow.Author.Needs.{needs}
 use borrow.Author.Tests.{not-true, not-false}
 use Rattle.judging.specs.Judging.{principalTest, principalsTest}
-use Rattle.judging.proofs.AllFrom.{Passed, passed-none, passed-next, passed-all, one-fails}
+use Rattle.layout.proofs.AllFrom.{Passed, passed-none, passed-next, passed-all, one-fails}
 use Rattle.judging.proofs.are_principals.Statement.{statement}
 use Rattle.judging.proofs.are_principals.Tie as tie
 

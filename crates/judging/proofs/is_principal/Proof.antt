@@ -2,7 +2,7 @@
 -- Assumes nothing.
 use mathlib.Core.Path.{_≡_}
 use borrow.Author.Needs.{needs}
-use Rattle.judging.proofs.PrincipalTests.{names-none, no-tenant, has-quota, by-principal}
+use Rattle.judging.proofs.PrincipalTests.{none-named, nobody-named, named-with-quota, tenant-named}
 use Rattle.judging.proofs.is_principal.Statement.{statement}
 use Rattle.judging.proofs.is_principal.Tie as tie
 
@@ -22,12 +22,12 @@ cast-principal : tie.Need-cast-principal
 cast-principal c = search needs
 
 returns : tie.Need-returns
-returns c = names-none _ _ _ (c .before .before .before .pre) (c .before .byte-at .ensures) (c .if1 .taken)
+returns c = none-named _ _ _ (c .before .before .before .pre) (c .before .byte-at .ensures) (c .if1 .taken)
 
 returns-2 : tie.Need-returns-2
 returns-2 c =
     let named = c .before in
-    no-tenant _ _ _ (named .before .before .before .pre) (named .before .byte-at .ensures) (named .if1 .left) (c .if2 .taken)
+    nobody-named _ _ _ (named .before .before .before .pre) (named .before .byte-at .ensures) (named .if1 .left) (c .if2 .taken)
 
 number16-requires : tie.Need-number16-requires
 number16-requires c κs = search needs
@@ -36,7 +36,7 @@ returns-3 : tie.Need-returns-3
 returns-3 c =
     let low = c .before .before in
     let named = low .before in
-    has-quota _ _ _ (named .before .before .before .pre) (named .before .byte-at .ensures) (named .if1 .left) (low .if2 .left)
+    named-with-quota _ _ _ (named .before .before .before .pre) (named .before .byte-at .ensures) (named .if1 .left) (low .if2 .left)
     _ (c .before .number16 .ensures) (c .if3 .taken)
 
 sub-byte-at : tie.Need-sub-byte-at
@@ -59,7 +59,7 @@ returns-4 c =
     let none = c .before in
     let low = none .before .before in
     let named = low .before in
-    by-principal _ _ _ (named .before .before .before .pre) (named .before .byte-at .ensures) (named .if1 .left) (low .if2 .left)
+    tenant-named _ _ _ (named .before .before .before .pre) (named .before .byte-at .ensures) (named .if1 .left) (low .if2 .left)
     _ (none .before .number16 .ensures) (none .if3 .left) _ (c .byte-at2 .ensures)
 
 pub is-principal-spec : {M : Type 1} → statement M

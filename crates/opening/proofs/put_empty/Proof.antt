@@ -25,7 +25,7 @@ returns c =
     let settings = c .before .before in
     let start = settings .before .before .before .before in
     let zeroed = start .before .before .before .before .before in
-    empty-placed _ _ _ _ _ _ (zeroed .before .before .before .before .before .pre .0)
+    empty-placed _ _ _ _ _ _ _ (zeroed .before .before .before .before .before .before .pre .0)
     (zeroed .clear .ensures) (start .put-text .ensures) (settings .put-settings .ensures)
 
 pub put-empty-spec : {M : Type 1} → statement M

@@ -24,6 +24,9 @@ cast-t14 c = search needs
 cast-t16 : tie.Need-cast-t16
 cast-t16 c = search needs
 
+cast-t18 : tie.Need-cast-t18
+cast-t18 c = search needs
+
 slice-aggregate-put-text : tie.Need-slice-aggregate-put-text
 slice-aggregate-put-text c = search needs
 
@@ -35,7 +38,7 @@ same-length c = search needs
 
 returns : tie.Need-returns
 returns c =
-    let args = c .before .before .before .before .before .before .before .before .before .before .before .args in
+    let args = c .before .before .before .before .before .before .before .before .before .before .before .before .args in
     c .before .before .put-text .ensures ∙ ap (λ (t : List ℕ). placed (args .at) t (args .book .now)) (six-bytes (args .setting))
 
 pub put-setting-spec : {M : Type 1} → statement M
@@ -47,6 +50,7 @@ put-setting-spec =
     cast-t11
     cast-t14
     cast-t16
+    cast-t18
     slice-aggregate-put-text
     put-text-requires
     same-length

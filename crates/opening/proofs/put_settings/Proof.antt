@@ -8,13 +8,13 @@ use Rattle.opening.proofs.put_settings.Statement.{statement}
 use Rattle.opening.proofs.put_settings.Tie as tie
 
 abbrev Inv-loop : tie.InvT-loop
-Inv-loop book₀ quotas ids t₀ book t = SettingsPut quotas ids book₀ book t
+Inv-loop book₀ quotas ids principals t₀ book t = SettingsPut quotas ids principals book₀ book t
 
 abbrev μ-loop : tie.MeasureT-loop
-μ-loop book₀ quotas ids t₀ book t = 16 - t
+μ-loop book₀ quotas ids principals t₀ book t = 16 - t
 
 loop-holds : tie.Need-loop-holds Inv-loop μ-loop
-loop-holds c = settings-none _ _ (omega (arith, c .before .before .before .pre .0))
+loop-holds c = settings-none _ _ _ (omega (arith, c .before .before .before .before .pre .0))
 
 mul-put-setting : tie.Need-mul-put-setting Inv-loop μ-loop
 mul-put-setting c = search needs
@@ -23,7 +23,9 @@ add-put-setting : tie.Need-add-put-setting Inv-loop μ-loop
 add-put-setting c = search needs
 
 first-setting-requires : tie.Need-first-setting-requires Inv-loop μ-loop
-first-setting-requires c κs = (c .before .before .before .before .before .before .pre .1, omega arith)
+first-setting-requires c κs =
+    let sizes = c .before .before .before .before .before .before .before .pre .1 in
+    (sizes .0, (sizes .1, omega arith))
 
 put-setting-requires : tie.Need-put-setting-requires Inv-loop μ-loop
 put-setting-requires c κs = search needs
@@ -37,13 +39,13 @@ loop-less c = search needs
 loop-again : tie.Need-loop-again Inv-loop μ-loop
 loop-again c =
     let now = c .before .before .before .before .before .before .loop in
-    settings-next _ _ (now .inv) (omega arith) _ _ (c .before .before .before .first-setting .ensures) (c .before .before .put-setting .ensures)
+    settings-next _ _ _ (now .inv) (omega arith) _ _ (c .before .before .before .first-setting .ensures) (c .before .before .put-setting .ensures)
 
 same-length : tie.Need-same-length Inv-loop μ-loop
 same-length c = c .before .loop .inv .same
 
 returns : tie.Need-returns Inv-loop μ-loop
-returns c = settings-all _ _ (c .before .loop .inv) (omega arith)
+returns c = settings-all _ _ _ (c .before .loop .inv) (omega arith)
 
 pub put-settings-spec : {M : Type 1} → statement M
 put-settings-spec =

@@ -11,7 +11,7 @@ use Rattle.opening.proofs.quota_sum.Statement.{statement}
 use Rattle.opening.proofs.quota_sum.Tie as tie
 
 abbrev Inv-loop : tie.InvT-loop
-Inv-loop quotas sum₀ t₀ sum t = Summed (firstSetting quotas []) sum t
+Inv-loop quotas sum₀ t₀ sum t = Summed (firstSetting quotas [] []) sum t
 
 abbrev μ-loop : tie.MeasureT-loop
 μ-loop quotas sum₀ t₀ sum t = 16 - t

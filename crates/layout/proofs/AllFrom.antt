@@ -2,12 +2,15 @@
 -- Assumes nothing.
 use mathlib.Core.Path.{_≡_, refl, sym, ap, _∙_}
 use mathlib.Core.Bool.{Bool, true, false}
+use mathlib.Core.List.{List}
 use Prim.Native.Nat.{ℕ, zero, suc, _+_, _≤_, _<_}
 use native.Mathlib.Omega.{arith}
 use borrow.Author.Tests.{eqb-true, eqb-false}
 use lib.Dec.{eqb}
 use Rattle.bytes.proofs.Every.{and-first, and-second, either}
-use Rattle.judging.specs.Judging.{allFrom}
+use Rattle.tenants.specs.declared.Setting.{Setting}
+use Rattle.tenants.specs.Together.{isPrincipal, arePrincipals}
+use Rattle.layout.specs.Layout.{eachFrom, allFrom}
 
 module _ (test : ℕ → Bool) where
   pub all-each : (i n : ℕ) → allFrom test i n ≡ true → (k : ℕ) → i ≤ k → k < i + n → test k ≡ true
@@ -50,3 +53,10 @@ unfolding allFrom
 same-all test other i zero same = refl
 same-all test other i (suc n) same =
     rw (same i (omega arith) (omega arith), same-all test other (suc i) n (λ k low high. same k (omega arith) (omega arith)))
+
+-- all of a row may name as they do where each may
+pub principals-each : (all : List Setting) (at : ℕ → Setting) (t n : ℕ)
+    → arePrincipals all t (eachFrom at t n) ≡ allFrom (λ (u : ℕ). isPrincipal all u (at u)) t n
+unfolding arePrincipals eachFrom allFrom
+principals-each all at t zero = refl
+principals-each all at t (suc n) = rw (principals-each all at (suc t) n)
