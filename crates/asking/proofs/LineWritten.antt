@@ -21,7 +21,7 @@ use Rattle.tenants.specs.Rules.{isTenant, lineCell, lineFor}
 use Rattle.tenants.specs.Together.{ownOf, isSetting}
 use Rattle.tenants.proofs.Ranges.{Fit, tenant-below, held-fits}
 use Rattle.tenants.proofs.FoundHeld.{found-held}
-use Rattle.layout.specs.Layout.{bookOf, isBook, ownIn}
+use Rattle.layout.specs.Layout.{bookOf, isBook, listIn, ownIn}
 use Rattle.layout.proofs.Promises.{good}
 use Rattle.asking.specs.Issuing.{lineWritten}
 
@@ -38,7 +38,7 @@ module _ (s : List ℕ) (t : ℕ) (undamaged : isBook s ≡ true) (tenant : isTe
   -- what it holds under a name has all its values in their ranges
   pub fits : (name : ℕ) (cell : Held) → cellOf name (ownIn s t .cells) ≡ some cell → Fit cell
   unfolding ownOf
-  fits name cell found = held-fits cell (found-held t name cell (bookOf s .records) (good s undamaged .each-record) found)
+  fits name cell found = held-fits cell (found-held (listIn s t) name cell (bookOf s .records) (good s undamaged .each-record) found)
 
   module _ (expiry level : ℕ) (date : isDate expiry ≡ true) (low : level ≤ 1) where
     -- a held cell and the setting give a line all that it is written from

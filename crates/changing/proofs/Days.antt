@@ -16,7 +16,7 @@ use Rattle.tenants.specs.Alone.{withDays}
 use Rattle.tenants.specs.Rules.{sets}
 use Rattle.tenants.specs.Together.{BookRecord, noSetting, changed}
 use Rattle.tenants.proofs.Goodness.{Good}
-use Rattle.layout.specs.Layout.{zeros, settingBytes, recordBytes, allBytes, bookBytes, settingPlace, bookOf, isBook}
+use Rattle.layout.specs.Layout.{settingBytes, recordBytes, allBytes, bookBytes, settingPlace, bookOf, isBook}
 use Rattle.layout.proofs.Each.{bytes-append}
 use Rattle.layout.proofs.Sizes.{settings-size}
 use Rattle.layout.proofs.ReadBack.{start, rest}
@@ -47,13 +47,13 @@ days-replaced days records front x back =
     before = start n ++ (allBytes settingBytes front ++ bytesOf 2 (x .quota))
 
     after : List ℕ
-    after = bytesOf 2 (x .server) ++ (zeros 1 ++ (allBytes settingBytes back ++ (allBytes recordBytes records ++ rest n)))
+    after = bytesOf 2 (x .server) ++ (bytesOf 1 (x .principal) ++ (allBytes settingBytes back ++ (allBytes recordBytes records ++ rest n)))
 
     parts : (y : Setting)
         → bookBytes (record { settings = front ++ (y ∷ back); records = records })
         ≡ (start n ++ (allBytes settingBytes front ++ bytesOf 2 (y .quota)))
         ++ (bytesOf 1 (y .days)
-        ++ (bytesOf 2 (y .server) ++ (zeros 1 ++ (allBytes settingBytes back ++ (allBytes recordBytes records ++ rest n)))))
+        ++ (bytesOf 2 (y .server) ++ (bytesOf 1 (y .principal) ++ (allBytes settingBytes back ++ (allBytes recordBytes records ++ rest n)))))
     parts y = unfold bookBytes in rw (bytes-append settingBytes front (y ∷ back)) (unfold allBytes settingBytes in simp append-assoc)
 
 module _ (s : List ℕ) (undamaged : isBook s ≡ true) where

@@ -4,7 +4,7 @@ ghost use mathlib.Core.Path.{_≡_};
 ghost use mathlib.Core.Bool.{true};
 ghost use Prim.Native.Nat.{_≤_};
 ghost use lib.ListN.{length};
-ghost use Rattle.tenants.specs.Rules.{isHeld};
+ghost use Rattle.tenants.specs.Rules.{isHeld, namesNone};
 ghost use Rattle.layout.specs.Layout.{isBook, ownIn};
 ghost use Rattle.records.specs.Finding.{searchedFor};
 ghost use Rattle.records.specs.declared.finding.Found.the-variants.{Absent};
@@ -42,7 +42,7 @@ fn is_held(cell: Held) -> bool
 // Enters a cell with a new name, which would go to place i: the quota of its tenant, which holds so many cells, decides.
 fn enter_new(book: &mut [u8], i: u32, held: u32, tenant: u32, cell: Held) -> Moved
     requires { ⌜ isBook (now book) ≡ true ⌝ }
-    requires { ⌜ (tenant ≤ 15) × (isHeld cell ≡ true) ⌝ }
+    requires { ⌜ (tenant ≤ 15) × ((isHeld cell ≡ true) × (namesNone (ownIn (now book) tenant .setting) ≡ true)) ⌝ }
     requires { ⌜ searchedFor (now book) tenant (cell .name) ≡ Absent i ⌝ }
     requires { ⌜ held ≡ length (ownIn (now book) tenant .cells) ⌝ }
     ensures { λ r. ⌜ (r ≡ houseAnswer tenant (now (book .entry)) (entry (now (book .entry)) tenant cell))
@@ -58,7 +58,7 @@ fn enter_new(book: &mut [u8], i: u32, held: u32, tenant: u32, cell: Held) -> Mov
     Moved::Refused(105)
 }
 
-// Enters a cell: a held name is replaced.
+// Enters a cell, which a branch cannot: a held name is replaced.
 pub fn enter(book: &mut [u8], tenant: u32, cell: Held) -> Moved
     ensures { λ r. ⌜ (r ≡ houseAnswer tenant (now (book .entry)) (entry (now (book .entry)) tenant cell))
         × (now (book .exit) ≡ bytesAfter tenant (entry (now (book .entry)) tenant cell) (now (book .entry))) ⌝ }
@@ -72,6 +72,9 @@ pub fn enter(book: &mut [u8], tenant: u32, cell: Held) -> Moved
     if !is_held(cell) {
         return Moved::Refused(103);
     }
+    if layout::setting_of(book, tenant).principal != 0 {
+        return Moved::Refused(111);
+    }
     match records::finding::find(book, first, past, cell.name) {
         Found::At(i) => {
             records::moving::put_record(book, i, tenant, cell);
@@ -81,7 +84,7 @@ pub fn enter(book: &mut [u8], tenant: u32, cell: Held) -> Moved
     }
 }
 
-// Withdraws a cell.
+// Withdraws a cell, which a branch cannot.
 pub fn withdraw(book: &mut [u8], tenant: u32, name: u64) -> Moved
     ensures { λ r. ⌜ (r ≡ houseAnswer tenant (now (book .entry)) (withdrawal (now (book .entry)) tenant name))
         × (now (book .exit) ≡ bytesAfter tenant (withdrawal (now (book .entry)) tenant name) (now (book .entry))) ⌝ }
@@ -94,6 +97,9 @@ pub fn withdraw(book: &mut [u8], tenant: u32, name: u64) -> Moved
     }
     if !forms::identifiers::is_cell_name(name) {
         return Moved::Refused(103);
+    }
+    if layout::setting_of(book, tenant).principal != 0 {
+        return Moved::Refused(111);
     }
     let Found::At(i) = records::finding::find(book, first, past, name) else {
         return Moved::Refused(104);

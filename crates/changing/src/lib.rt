@@ -20,7 +20,7 @@ fn number_of(answer: Moved) -> u32
     }
 }
 
-// Enters a cell: a held name is replaced.
+// Enters a cell, which a branch cannot: a held name is replaced.
 pub fn enter(book: &mut [u8], tenant: u32, cell: Held) -> u32
     ensures { λ r. ⌜ (r ≡ changeNumber (entry (now (book .entry)) tenant cell))
         × (now (book .exit) ≡ bytesAfter tenant (entry (now (book .entry)) tenant cell) (now (book .entry))) ⌝ }
@@ -28,7 +28,7 @@ pub fn enter(book: &mut [u8], tenant: u32, cell: Held) -> u32
     number_of(house::enter(book, tenant, cell))
 }
 
-// Withdraws a cell.
+// Withdraws a cell, which a branch cannot.
 pub fn withdraw(book: &mut [u8], tenant: u32, name: u64) -> u32
     ensures { λ r. ⌜ (r ≡ changeNumber (withdrawal (now (book .entry)) tenant name))
         × (now (book .exit) ≡ bytesAfter tenant (withdrawal (now (book .entry)) tenant name) (now (book .entry))) ⌝ }

@@ -15,7 +15,7 @@ use Rattle.bytes.proofs.Every.{either}
 use Rattle.bytes.proofs.Places.{number-written}
 use Rattle.tenants.specs.Together.{BookRecord, names, fullName, tenantOf, nameOf, ownOf}
 use Rattle.tenants.proofs.Ordered.{Above, Sorted}
-use Rattle.layout.specs.Layout.{zeros, recordBytes, recordPlace, recordAt, recordCount, bookOf, isBook}
+use Rattle.layout.specs.Layout.{zeros, recordBytes, recordPlace, recordAt, recordCount, bookOf, isBook, listIn}
 use Rattle.judging.specs.Starts.{startOf, firstIn, pastIn}
 use Rattle.layout.proofs.Indexed.{book-count}
 use Rattle.layout.proofs.Promises.{good, written-so}
@@ -28,7 +28,7 @@ use Rattle.records.proofs.Halving.{before-place, from-place, place-with
 
 pub counts-held : CountsHeld
 unfolding ownOf
-counts-held s t = start-next t (bookOf s .records)
+counts-held s t = start-next (listIn s t) (bookOf s .records)
 
 none-below : (full k : ℕ) (records : List BookRecord) → full ≤ k → Above k records → placeOf full records ≡ 0
 unfolding placeOf

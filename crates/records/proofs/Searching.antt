@@ -18,7 +18,7 @@ use Rattle.layout.proofs.Frame.{book-frame}
 use Rattle.layout.proofs.Indexed.{book-count}
 use Rattle.layout.proofs.Promises.{good}
 use Rattle.records.specs.declared.finding.Found.the-variants.{At, Absent}
-use Rattle.records.specs.Finding.{nameAt, halved, placeIn, foundAt, searched, searchedFor}
+use Rattle.records.specs.Finding.{nameAt, halved, placeIn, foundAt, searched, searchedUnder}
 use Rattle.records.proofs.Found.{placeOf, foundIn}
 use Rattle.records.proofs.Halving.{place-after, place-up-to, held-there}
 use Rattle.records.proofs.OwnPart.{past-within, own-name, past-above, place-from, place-upto}
@@ -205,7 +205,7 @@ module _ (s : List ℕ) (undamaged : isBook s ≡ true) (t name : ℕ) (small : 
       rw (yes, ne-eqb (getD (bookOf s .records) place (recordAt s place) .name) (fullName t name) (λ e. omega arith)) refl)
       (λ beyond. rw beyond refl)))
 
-  pub search-says : searchedFor s t name ≡ foundIn (fullName t name) (bookOf s .records)
+  pub search-says : searchedUnder s t name ≡ foundIn (fullName t name) (bookOf s .records)
   unfolding searched foundIn
   search-says =
       let frame = book-frame s undamaged in

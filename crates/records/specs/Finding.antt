@@ -10,7 +10,7 @@ use lib.ListN.{length}
 use Rattle.bytes.specs.Places.{numberAt}
 use Rattle.tenants.specs.Cells.{cellOf}
 use Rattle.tenants.specs.Together.{names, cellIn}
-use Rattle.layout.specs.Layout.{usedLength, recordPlace, recordAt, isBook, ownIn}
+use Rattle.layout.specs.Layout.{usedLength, recordPlace, recordAt, isBook, listIn, ownIn}
 use Rattle.judging.specs.Starts.{firstIn, pastIn, judged}
 use Rattle.judging.specs.declared.Judged.the-variants.{Records}
 use Rattle.records.specs.declared.finding.Found.{Found}
@@ -42,15 +42,19 @@ foundAt s past name i = cond (ltb i past && eqb (nameAt s i) name) (At i) (Absen
 unfoldable pub searched : List ℕ → ℕ → ℕ → ℕ → Found
 searched s first past name = cond (leb (usedLength past) (length s)) (foundAt s past name (placeIn s first past name)) (Absent first)
 
--- and among those of tenant t
+-- among those under tenant t's number
+abbrev pub searchedUnder : List ℕ → ℕ → ℕ → Found
+searchedUnder s t name = searched s (firstIn s t) (pastIn s t) name
+
+-- and among those that tenant t reads
 abbrev pub searchedFor : List ℕ → ℕ → ℕ → Found
-searchedFor s t name = searched s (firstIn s t) (pastIn s t) name
+searchedFor s t name = searchedUnder s (listIn s t) name
 
 -- which is where judging the book for the tenant says that they stand
 abbrev pub SearchesOwn : Type 0
 SearchesOwn = (s : List ℕ) (t name first past : ℕ) → judged s t ≡ Records first past → searched s first past name ≡ searchedFor s t name
 
--- of an undamaged book: the record that is found is the tenant's cell of that name
+-- of an undamaged book: the record that is found is the cell of that name among the tenant's own
 abbrev pub FindsHeld : Type 0
 FindsHeld =
     (s : List ℕ) (t name i : ℕ) → isBook s ≡ true → name < names → searchedFor s t name ≡ At i
@@ -62,6 +66,6 @@ FindsNone =
     (s : List ℕ) (t name i : ℕ) → isBook s ≡ true → name < names → searchedFor s t name ≡ Absent i
     → cellOf name (ownIn s t .cells) ≡ none
 
--- and from where its records begin to where they end they are as many as the cells that it holds; that is so of any bytes
+-- and from where the records begin that it reads to where they end they are as many as its cells; that is so of any bytes
 abbrev pub CountsHeld : Type 0
-CountsHeld = (s : List ℕ) (t : ℕ) → pastIn s t ≡ firstIn s t + length (ownIn s t .cells)
+CountsHeld = (s : List ℕ) (t : ℕ) → pastIn s (listIn s t) ≡ firstIn s (listIn s t) + length (ownIn s t .cells)

@@ -14,7 +14,7 @@ use Rattle.tenants.specs.Together.{BookRecord, names, inBook, changed}
 use Rattle.tenants.specs.House.{laterIn}
 use Rattle.layout.specs.Layout.{recordSize, zeros, recordBytes, usedLength, bookBytes, recordPlace, recordCount, bookOf, isBook}
 use Rattle.records.specs.declared.finding.Found.the-variants.{At, Absent}
-use Rattle.records.specs.Finding.{searchedFor}
+use Rattle.records.specs.Finding.{searchedUnder}
 
 -- p with its first n bytes moved up by k: a gap of k bytes opens before them
 abbrev pub movedUp : ℕ → ℕ → List ℕ → List ℕ
@@ -64,30 +64,30 @@ recordRemoved i s = cond (ltb i (recordCount s) && leb (usedLength (recordCount 
 -- of an undamaged book: to write a cell's record where the search found its name is to enter it
 abbrev pub Replaces : Type 0
 Replaces =
-    (s : List ℕ) (t : ℕ) (cell : Held) (i : ℕ) → isBook s ≡ true → cell .name < names → searchedFor s t (cell .name) ≡ At i
+    (s : List ℕ) (t : ℕ) (cell : Held) (i : ℕ) → isBook s ≡ true → cell .name < names → searchedUnder s t (cell .name) ≡ At i
     → recordPut i (inBook t cell) s ≡ bookBytes (changed t (enters cell) (bookOf s))
 
 -- and so it is to put it in where the search found none, with room for one more
 abbrev pub Inserts : Type 0
 Inserts =
     (s : List ℕ) (t : ℕ) (cell : Held) (i : ℕ) → isBook s ≡ true → cell .name < names → recordCount s < 512
-    → searchedFor s t (cell .name) ≡ Absent i
+    → searchedUnder s t (cell .name) ≡ Absent i
     → recordInserted i (inBook t cell) s ≡ bookBytes (changed t (enters cell) (bookOf s))
 
 -- to take the record out that the search found is to withdraw its cell
 abbrev pub Removes : Type 0
 Removes =
-    (s : List ℕ) (t name i : ℕ) → isBook s ≡ true → name < names → searchedFor s t name ≡ At i
+    (s : List ℕ) (t name i : ℕ) → isBook s ≡ true → name < names → searchedUnder s t name ≡ At i
     → recordRemoved i s ≡ bookBytes (changed t (withdraws name) (bookOf s))
 
 -- of the records then, those that are later in order than an entered cell of a new name are as many as stand after it
 abbrev pub LaterEntered : Type 0
 LaterEntered =
-    (s : List ℕ) (t : ℕ) (cell : Held) (i : ℕ) → isBook s ≡ true → cell .name < names → searchedFor s t (cell .name) ≡ Absent i
+    (s : List ℕ) (t : ℕ) (cell : Held) (i : ℕ) → isBook s ≡ true → cell .name < names → searchedUnder s t (cell .name) ≡ Absent i
     → suc i + laterIn (changed t (enters cell) (bookOf s)) t (cell .name) ≡ length (changed t (enters cell) (bookOf s) .records)
 
 -- and than a withdrawn one, as many as stood after it
 abbrev pub LaterWithdrawn : Type 0
 LaterWithdrawn =
-    (s : List ℕ) (t name i : ℕ) → isBook s ≡ true → name < names → searchedFor s t name ≡ At i
+    (s : List ℕ) (t name i : ℕ) → isBook s ≡ true → name < names → searchedUnder s t name ≡ At i
     → suc i + laterIn (changed t (withdraws name) (bookOf s)) t name ≡ recordCount s

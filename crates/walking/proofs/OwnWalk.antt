@@ -15,7 +15,7 @@ use Rattle.tenants.specs.Together.{BookRecord, names, tenantOf, nameOf, cellIn,
 use Rattle.tenants.proofs.Ordered.{Above, Sorted, Stands, before, same, behind, stands}
 use Rattle.tenants.proofs.OwnCells.{cells-mine, cells-not, own-sorted}
 use Rattle.tenants.proofs.Producers.{holds-first, holds-rest, holds-none}
-use Rattle.layout.specs.Layout.{usedLength, recordAt, recordCount, eachFrom, bookOf, isBook}
+use Rattle.layout.specs.Layout.{usedLength, recordAt, recordCount, eachFrom, bookOf, isBook, listIn}
 use Rattle.layout.proofs.Frame.{book-frame}
 use Rattle.layout.proofs.Indexed.{book-count}
 use Rattle.layout.proofs.Promises.{good}
@@ -146,7 +146,8 @@ module _ (s : List ℕ) (t producer : ℕ) where
 pub walks-own : WalksOwn
 unfolding ownOf
 walks-own s t producer first past so =
-    let says = judged-says s t first past so in
+    let list = listIn s t in
+    let says = judged-says s list first past so in
     ap₂ (λ (i j : ℕ). anyAmong s i j producer) (says .1 .0) (says .1 .1)
-    ∙ sym (walked-within s (firstIn s t) (pastIn s t) producer (past-within s t producer (says .0)))
-    ∙ walks-records s t producer (says .0)
+    ∙ sym (walked-within s (firstIn s list) (pastIn s list) producer (past-within s list producer (says .0)))
+    ∙ walks-records s list producer (says .0)

@@ -9,9 +9,9 @@ use borrow.Author.Needs.{needs}
 use borrow.Author.Tests.{not-true, not-false}
 use lib.ListN.{length}
 use Rattle.tenants.specs.declared.Held.{Held}
-use Rattle.tenants.specs.Rules.{isHeld}
+use Rattle.tenants.specs.Rules.{isHeld, namesNone}
 use Rattle.tenants.proofs.Ranges.{tenant-is, tenant-not}
-use Rattle.layout.specs.Layout.{isBook, ownIn}
+use Rattle.layout.specs.Layout.{isBook, listIn, ownIn}
 use Rattle.judging.specs.Starts.{judged}
 use Rattle.judging.specs.declared.Judged.the-variants.{Records}
 use Rattle.judging.proofs.Judgements.{judged-says, judged-damaged}
@@ -20,7 +20,7 @@ use Rattle.records.specs.Finding.{searchedFor}
 use Rattle.records.proofs.OwnPart.{counts-held}
 use Rattle.records.proofs.OwnFound.{searches-own}
 use Rattle.changing.specs.House.{houseAnswer}
-use Rattle.changing.proofs.ChangeRules.{refused, entry-damaged, entry-outside, entry-unfit}
+use Rattle.changing.proofs.ChangeRules.{refused, entry-damaged, entry-outside, entry-unfit, entry-branch, read-none, read-branch}
 use Rattle.changing.proofs.Done.{entered-held}
 use Rattle.changing.proofs.house.enter.Statement.{statement}
 use Rattle.changing.proofs.house.enter.Tie as tie
@@ -37,12 +37,12 @@ module _ (e : tie.After-known-told) where
   judged-so = sym (e .before .before .before .judge .ensures) ∙ e .before .first .given .1
 
   undamaged : isBook s ≡ true
-  undamaged = judged-says s (start .args .tenant) _ _ judged-so .0
+  undamaged = judged-says s (listIn s (start .args .tenant)) _ _ judged-so .0
 
   -- from where its records begin to where they end they are its cells
   own-count : e .before .first .given .0 .1 .0 ≡ e .before .first .given .0 .0 + length (ownIn s (start .args .tenant) .cells)
   own-count =
-      let places = judged-says s (start .args .tenant) _ _ judged-so .1 in
+      let places = judged-says s (listIn s (start .args .tenant)) _ _ judged-so .1 in
       omega (arith, places .0, places .1, counts-held s (start .args .tenant))
 
 module _ (e : tie.Else1) where
@@ -66,17 +66,28 @@ module _ (e : tie.Else2) where
   fit : isHeld cell ≡ true
   fit = sym (e .before .is-held .ensures) ∙ not-false _ (e .if2 .left)
 
+-- and once it is found to be no branch
+module _ (e : tie.Else3) where
+  abbrev third : tie.Else2
+  third = e .before .before .before .before
+
+  keeps : namesNone (ownIn (s (first third)) (t (second third)) .setting) ≡ true
+  keeps = read-none (s (first third)) (t (second third)) (tenant (second third)) _ (e .before .before .setting-of .ensures) (e .if3 .left)
+
 -- what the search finds is what it finds among the tenant's own
 told : (f : tie.After-find)
-    → let d = f .before .before in f .find .result ≡ searchedFor (s (first d)) (t (second d)) (cell d .name)
+    → let d = third (f .before .before) in f .find .result ≡ searchedFor (s (first d)) (t (second d)) (cell d .name)
 told f =
-    let d = f .before .before in
+    let d = third (f .before .before) in
     f .find .ensures ∙ searches-own (s (first d)) (t (second d)) (cell d .name) _ _ (judged-so (first d))
 
 -- the name is held at this place
 module _ (h : tie.After-i) where
+  abbrev kept : tie.Else3
+  kept = h .before .before .before .before
+
   abbrev fitted : tie.Else2
-  fitted = h .before .before .before .before
+  fitted = third kept
 
   at-place : searchedFor (s (first fitted)) (t (second fitted)) (cell fitted .name) ≡ At (h .i .given .0 .0)
   at-place = sym (told (h .before .before)) ∙ h .i .given .1
@@ -98,7 +109,7 @@ returns c =
     let start = c .before .before .before .before .before .args in
     refused (houseAnswer (start .tenant) (start .book .now)) _ _ _ 101
     (entry-damaged (start .book .now) (start .tenant) (start .cell)
-    (judged-damaged (start .book .now) (start .tenant) (sym (c .before .before .judge .ensures) ∙ c .enum-told .given .1)))
+    (judged-damaged (start .book .now) (listIn (start .book .now) (start .tenant)) (sym (c .before .before .judge .ensures) ∙ c .enum-told .given .1)))
 
 same-length-2 : tie.Need-same-length-2
 same-length-2 c = search needs
@@ -121,6 +132,20 @@ returns-3 c =
     (entry-unfit (s (e .before)) (t e) (start (e .before) .args .cell) (undamaged (e .before)) (tenant-is _ (tenant e))
     (sym (c .before .is-held .ensures) ∙ not-true _ (c .if2 .taken)))
 
+setting-of-requires : tie.Need-setting-of-requires
+setting-of-requires c κs = search needs
+
+same-length-4 : tie.Need-same-length-4
+same-length-4 c = search needs
+
+returns-4 : tie.Need-returns-4
+returns-4 c =
+    let read = c .before .before in
+    let d = read .before .before in
+    refused (houseAnswer (t (second d)) (s (first d))) _ _ _ 111
+    (entry-branch (s (first d)) (t (second d)) (cell d) (undamaged (first d)) (tenant-is _ (tenant (second d))) (fit d)
+    (read-branch (s (first d)) (t (second d)) (tenant (second d)) _ (read .setting-of .ensures) (c .if3 .taken)))
+
 find-requires : tie.Need-find-requires
 find-requires c κs = search needs
 
@@ -134,32 +159,33 @@ enum-known-i-2 : tie.Need-enum-known-i-2
 enum-known-i-2 c = search needs
 
 sub-enter-new : tie.Need-sub-enter-new
-sub-enter-new c = let d = c .before .before .before .before .before .before in omega (arith, own-count (first d))
+sub-enter-new c = let d = third (c .before .before .before .before .before .before) in omega (arith, own-count (first d))
 
 enter-new-requires : tie.Need-enter-new-requires
 enter-new-requires c κs =
     let i = c .before .before in
     let f = i .before .before in
-    let d = f .before .before in
-    (undamaged (first d), ((tenant (second d), fit d), (sym (told f) ∙ i .i2 .given .1, omega (arith, own-count (first d)))))
-
-same-length-4 : tie.Need-same-length-4
-same-length-4 c = search needs
-
-returns-4 : tie.Need-returns-4
-returns-4 c =
-    let put = c .before .before in
-    let i = put .before .before .before in
-    let d = i .before .before .before .before in
-    let does =
-    entered-held (s (first d)) (undamaged (first d)) (t (second d)) (tenant (second d)) (cell d) (fit d) (i .i .given .0 .0) (at-place i) in
-    (does .0, put .put-record .ensures ∙ does .1)
+    let k = f .before .before in
+    let d = third k in
+    (undamaged (first d), ((tenant (second d), (fit d, keeps k)), (sym (told f) ∙ i .i2 .given .1, omega (arith, own-count (first d)))))
 
 same-length-5 : tie.Need-same-length-5
 same-length-5 c = search needs
 
 returns-5 : tie.Need-returns-5
-returns-5 c = c .before .before .enter-new .ensures
+returns-5 c =
+    let put = c .before .before in
+    let i = put .before .before .before in
+    let d = fitted i in
+    let does =
+    entered-held (s (first d)) (undamaged (first d)) (t (second d)) (tenant (second d)) (cell d) (fit d) (keeps (kept i)) (i .i .given .0 .0) (at-place i) in
+    (does .0, put .put-record .ensures ∙ does .1)
+
+same-length-6 : tie.Need-same-length-6
+same-length-6 c = search needs
+
+returns-6 : tie.Need-returns-6
+returns-6 c = c .before .before .enter-new .ensures
 
 pub enter-spec : {M : Type 1} → statement M
 enter-spec =
@@ -175,13 +201,16 @@ enter-spec =
     is-held-requires
     same-length-3
     returns-3
+    setting-of-requires
+    same-length-4
+    returns-4
     find-requires
     enum-known-i
     put-record-requires
     enum-known-i-2
     sub-enter-new
     enter-new-requires
-    same-length-4
-    returns-4
     same-length-5
-    returns-5)
+    returns-5
+    same-length-6
+    returns-6)

@@ -65,12 +65,12 @@ module _ (c : tie.After-count) where
   does : Does (houseAnswer (t k) (s k)) (t k) (s k) (entry (s k) (t k) (start k .args .cell)) (Done (recordCount then - 1 - i)) then
   does =
       let known = start k .pre in
-      entered-new (s k) (known .0) (t k) (known .1 .0 .0) (start k .args .cell) (known .1 .0 .1) i (known .1 .1 .0) (has-room test)
+      entered-new (s k) (known .0) (t k) (known .1 .0 .0) (start k .args .cell) (known .1 .0 .1 .0) (known .1 .0 .1 .1) i (known .1 .1 .0) (has-room test)
 
   within : (i < recordCount then) × (recordCount then ≤ 512)
   within =
       let known = start k .pre in
-      place-then (s k) (known .0) (t k) (known .1 .0 .0) (start k .args .cell) (known .1 .0 .1) i (known .1 .1 .0) (has-room test)
+      place-then (s k) (known .0) (t k) (known .1 .0 .0) (start k .args .cell) (known .1 .0 .1 .0) (known .1 .0 .1 .1) i (known .1 .1 .0) (has-room test)
 
   counted : c .count .result ≡ recordCount then
   counted = c .count .ensures ∙ ap recordCount (entered .insert-record .ensures)
@@ -100,7 +100,7 @@ returns-2 : tie.Need-returns-2
 returns-2 c =
     let k = c .before in
     let known = start k .pre in
-    quota-used (s k) (known .0) (t k) (known .1 .0 .0) (start k .args .cell) (known .1 .0 .1) (start k .args .i) (known .1 .1 .0)
+    quota-used (s k) (known .0) (t k) (known .1 .0 .0) (start k .args .cell) (known .1 .0 .1 .0) (known .1 .0 .1 .1) (start k .args .i) (known .1 .1 .0)
     (omega (arith, holds k, allows k, c .if1 .left))
 
 pub enter-new-spec : {M : Type 1} → statement M

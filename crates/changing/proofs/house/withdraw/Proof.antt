@@ -9,7 +9,8 @@ use borrow.Author.Needs.{needs}
 use borrow.Author.Tests.{not-true, not-false}
 use Rattle.forms.specs.Identifiers.{isCellName}
 use Rattle.tenants.proofs.Ranges.{tenant-is, tenant-not, name-below}
-use Rattle.layout.specs.Layout.{recordCount, isBook}
+use Rattle.tenants.specs.Rules.{namesNone}
+use Rattle.layout.specs.Layout.{recordCount, isBook, listIn, ownIn}
 use Rattle.layout.proofs.Frame.{book-frame}
 use Rattle.judging.specs.Starts.{judged}
 use Rattle.judging.specs.declared.Judged.the-variants.{Records}
@@ -19,7 +20,7 @@ use Rattle.records.specs.Finding.{searchedFor}
 use Rattle.records.proofs.OwnFound.{searches-own, found-within}
 use Rattle.changing.specs.declared.house.Moved.the-variants.{Done}
 use Rattle.changing.specs.House.{houseAnswer}
-use Rattle.changing.proofs.ChangeRules.{refused, withdrawal-damaged, withdrawal-outside, withdrawal-unfit}
+use Rattle.changing.proofs.ChangeRules.{refused, withdrawal-damaged, withdrawal-outside, withdrawal-unfit, withdrawal-branch, read-none, read-branch}
 use Rattle.changing.proofs.Done.{withdrawn-held, not-held}
 use Rattle.changing.proofs.house.withdraw.Statement.{statement}
 use Rattle.changing.proofs.house.withdraw.Tie as tie
@@ -36,7 +37,7 @@ module _ (e : tie.After-known-told) where
   judged-so = sym (e .before .before .before .judge .ensures) ∙ e .before .first .given .1
 
   undamaged : isBook s ≡ true
-  undamaged = judged-says s (start .args .tenant) _ _ judged-so .0
+  undamaged = judged-says s (listIn s (start .args .tenant)) _ _ judged-so .0
 
 module _ (e : tie.Else1) where
   abbrev t : ℕ
@@ -59,17 +60,28 @@ module _ (e : tie.Else2) where
   fit : isCellName name ≡ true
   fit = sym (e .before .is-cell-name .ensures) ∙ not-false _ (e .if2 .left)
 
+-- and once it is found to be no branch
+module _ (e : tie.Else3) where
+  abbrev third : tie.Else2
+  third = e .before .before .before .before
+
+  keeps : namesNone (ownIn (s (first third)) (t (second third)) .setting) ≡ true
+  keeps = read-none (s (first third)) (t (second third)) (tenant (second third)) _ (e .before .before .setting-of .ensures) (e .if3 .left)
+
 -- what the search finds is what it finds among the tenant's own
 told : (f : tie.After-find)
-    → let d = f .before .before in f .find .result ≡ searchedFor (s (first d)) (t (second d)) (name d)
+    → let d = third (f .before .before) in f .find .result ≡ searchedFor (s (first d)) (t (second d)) (name d)
 told f =
-    let d = f .before .before in
+    let d = third (f .before .before) in
     f .find .ensures ∙ searches-own (s (first d)) (t (second d)) (name d) _ _ (judged-so (first d))
 
 -- it is held at this place
 module _ (h : tie.After-i) where
+  abbrev kept : tie.Else3
+  kept = h .before .before .before .before
+
   abbrev fitted : tie.Else2
-  fitted = h .before .before .before .before
+  fitted = third kept
 
   at-place : searchedFor (s (first fitted)) (t (second fitted)) (name fitted) ≡ At (h .i .given .0 .0)
   at-place = sym (told (h .before .before)) ∙ h .i .given .1
@@ -91,7 +103,7 @@ returns c =
     let start = c .before .before .before .before .before .args in
     refused (houseAnswer (start .tenant) (start .book .now)) _ _ _ 101
     (withdrawal-damaged (start .book .now) (start .tenant) (start .name)
-    (judged-damaged (start .book .now) (start .tenant) (sym (c .before .before .judge .ensures) ∙ c .enum-told .given .1)))
+    (judged-damaged (start .book .now) (listIn (start .book .now) (start .tenant)) (sym (c .before .before .judge .ensures) ∙ c .enum-told .given .1)))
 
 same-length-2 : tie.Need-same-length-2
 same-length-2 c = search needs
@@ -114,6 +126,20 @@ returns-3 c =
     (withdrawal-unfit (s (e .before)) (t e) (start (e .before) .args .name) (undamaged (e .before)) (tenant-is _ (tenant e))
     (sym (c .before .is-cell-name .ensures) ∙ not-true _ (c .if2 .taken)))
 
+setting-of-requires : tie.Need-setting-of-requires
+setting-of-requires c κs = search needs
+
+same-length-4 : tie.Need-same-length-4
+same-length-4 c = search needs
+
+returns-4 : tie.Need-returns-4
+returns-4 c =
+    let read = c .before .before in
+    let d = read .before .before in
+    refused (houseAnswer (t (second d)) (s (first d))) _ _ _ 111
+    (withdrawal-branch (s (first d)) (t (second d)) (name d) (undamaged (first d)) (tenant-is _ (tenant (second d))) (fit d)
+    (read-branch (s (first d)) (t (second d)) (tenant (second d)) _ (read .setting-of .ensures) (c .if3 .taken)))
+
 find-requires : tie.Need-find-requires
 find-requires c κs = search needs
 
@@ -123,14 +149,15 @@ enum-known-i c = search needs
 enum-told-2 : tie.Need-enum-told-2
 enum-told-2 c = search needs
 
-same-length-4 : tie.Need-same-length-4
-same-length-4 c = search needs
+same-length-5 : tie.Need-same-length-5
+same-length-5 c = search needs
 
-returns-4 : tie.Need-returns-4
-returns-4 c =
+returns-5 : tie.Need-returns-5
+returns-5 c =
     let f = c .before .before in
-    let d = f .before .before in
-    not-held (s (first d)) (undamaged (first d)) (t (second d)) (tenant (second d)) (name d) (fit d) (c .enum-told2 .given .0 .0)
+    let k = f .before .before in
+    let d = third k in
+    not-held (s (first d)) (undamaged (first d)) (t (second d)) (tenant (second d)) (name d) (fit d) (keeps k) (c .enum-told2 .given .0 .0)
     (sym (told f) ∙ c .enum-told2 .given .1)
 
 count-requires : tie.Need-count-requires
@@ -153,7 +180,7 @@ module _ (c : tie.After-count) where
   within : (i < recordCount (s (first d))) × (recordCount (s (first d)) ≤ 512)
   within =
       let book = undamaged (first d) in
-      (found-within (s (first d)) book (t (second d)) (name d) i (name-below (name d) (fit d)) (at-place held), book-frame (s (first d)) book .few)
+      (found-within (s (first d)) book (listIn (s (first d)) (t (second d))) (name d) i (name-below (name d) (fit d)) (at-place held), book-frame (s (first d)) book .few)
 
 cast-had : tie.Need-cast-had
 cast-had c = omega (arith, counted c, within c .1)
@@ -167,15 +194,15 @@ sub-after-2 c = omega (arith, counted c, within c .0)
 remove-record-requires : tie.Need-remove-record-requires
 remove-record-requires c κs = search needs
 
-same-length-5 : tie.Need-same-length-5
-same-length-5 c = search needs
+same-length-6 : tie.Need-same-length-6
+same-length-6 c = search needs
 
-returns-5 : tie.Need-returns-5
-returns-5 c =
+returns-6 : tie.Need-returns-6
+returns-6 c =
     let removed = c .before .before in
     let n = removed .before .before in
     let e = d n in
-    let does = withdrawn-held (s (first e)) (undamaged (first e)) (t (second e)) (tenant (second e)) (name e) (fit e) (i n) (at-place (held n)) in
+    let does = withdrawn-held (s (first e)) (undamaged (first e)) (t (second e)) (tenant (second e)) (name e) (fit e) (keeps (kept (held n))) (i n) (at-place (held n)) in
     (ap (λ (m : ℕ). Done (m - 1 - i n)) (counted n) ∙ does .0, removed .remove-record .ensures ∙ does .1)
 
 pub withdraw-spec : {M : Type 1} → statement M
@@ -192,15 +219,18 @@ withdraw-spec =
     is-cell-name-requires
     same-length-3
     returns-3
+    setting-of-requires
+    same-length-4
+    returns-4
     find-requires
     enum-known-i
     enum-told-2
-    same-length-4
-    returns-4
+    same-length-5
+    returns-5
     count-requires
     cast-had
     sub-after
     sub-after-2
     remove-record-requires
-    same-length-5
-    returns-5)
+    same-length-6
+    returns-6)
