@@ -1,27 +1,31 @@
--- What a done call did: the tenant's own calls afterwards give the entered cell, nothing of a withdrawn name, the new days, and else what they gave.
+-- What a done call did: whoever reads the tenant's list is afterwards given the entered cell, nothing of a withdrawn name, and else what it was given;
+-- the tenant has the new days.
 -- Assumes nothing.
-use mathlib.Core.Path.{_≡_, refl, ap, _∙_}
+use mathlib.Core.Path.{_≡_, refl, sym, ap, _∙_}
 use mathlib.Core.Bool.{Bool, true}
 use mathlib.Core.List.{List}
 use mathlib.Core.Option.{none, some}
 use Prim.Native.Nat.{ℕ}
 use native.Mathlib.Omega.{arith}
 use borrow.Author.Tests.{le-leb}
+use Rattle.bytes.proofs.Every.{either}
 use Rattle.dates.specs.Notice.{isDays}
 use Rattle.forms.specs.Order.{demand}
 use Rattle.forms.specs.Identifiers.{isCellName}
 use Rattle.forms.proofs.Demands.{passed}
 use Rattle.tenants.specs.declared.Held.{Held}
 use Rattle.tenants.specs.Cells.{entered, withdrawn, cellOf}
-use Rattle.tenants.specs.Rules.{Own, Change, enters, withdraws, sets, refuses, changeNumber, isTenant, isHeld, isSome, entering, withdrawing, settingDays, asking, issuing}
+use Rattle.tenants.specs.Rules.{Own, Change, enters, withdraws, sets, refuses, changeNumber, isTenant, isHeld, namesNone, isSome, entering, withdrawing, settingDays, asking, issuing}
 use Rattle.tenants.specs.Calls.{Call, enter, withdraw, setDays, changeOf}
 use Rattle.tenants.specs.Alone.{after}
-use Rattle.tenants.specs.Together.{ownOf}
-use Rattle.tenants.proofs.Ranges.{held-fits}
+use Rattle.tenants.specs.Branches.{changesCells}
+use Rattle.tenants.specs.Together.{settingOf, ownOf}
+use Rattle.tenants.proofs.Ranges.{tenant-is, held-fits}
 use Rattle.tenants.proofs.Allowed.{hasRoom}
-use Rattle.tenants.proofs.Apart.{own-after}
+use Rattle.tenants.proofs.Kept.{own-list, branch-below}
+use Rattle.tenants.proofs.Branches.{own-after, reader-after}
 use Rattle.tenants.proofs.OneList.{held-as-entered, others-after-entering, not-held-afterwards, others-after-withdrawing}
-use Rattle.layout.specs.Layout.{bookOf, isBook, ownIn}
+use Rattle.layout.specs.Layout.{bookOf, isBook, listIn, ownIn}
 use Rattle.layout.proofs.Promises.{undamaged-says, good}
 use Rattle.changing.specs.Changing.{entry, withdrawal, newDays}
 use Rattle.asking.specs.Asking.{editionIn, issuedFrom}
@@ -36,8 +40,21 @@ not-refused : (test : Bool) (n : ℕ) (next : Change) → (n ≡ 0 → ⊥) → 
 not-refused test n next = passed (λ (c : Change). changeNumber c ≡ 0) test (refuses n) next
 
 -- what is the tenant's own after a call on an undamaged book
-own-then : (s : List ℕ) (t : ℕ) (call : Call) → isBook s ≡ true → ownIn (bookAfter t call s) t ≡ after (changeOf t call (ownIn s t)) (ownIn s t)
-own-then s t call undamaged = ap (ownOf t) (book-after s t call undamaged) ∙ own-after t call (bookOf s) (good s undamaged)
+pub own-then : (s : List ℕ) (t : ℕ) (call : Call) → isBook s ≡ true → ownIn (bookAfter t call s) t ≡ after (changeOf t call (ownIn s t)) (ownIn s t)
+own-then s t call undamaged = ap (ownOf t) (book-after s t call undamaged) ∙ own-after (bookOf s) (good s undamaged) t call
+
+-- and what is that of whoever reads its list, after it enters or withdraws
+reader-then : (s : List ℕ) (t u : ℕ) (call : Call) → isBook s ≡ true → listIn s u ≡ t → changesCells call ≡ true
+    → ownIn (bookAfter t call s) u ≡ after (changeOf t call (ownIn s t)) (ownIn s u)
+reader-then s t u call undamaged list does =
+    ap (ownOf u) (book-after s t call undamaged) ∙ reader-after (bookOf s) (good s undamaged) u t call list does
+
+-- whoever reads a tenant's list is a tenant
+reader-tenant : (s : List ℕ) (t u : ℕ) → isBook s ≡ true → isTenant t ≡ true → listIn s u ≡ t → isTenant u ≡ true
+reader-tenant s t u undamaged tenant list =
+    either (namesNone (settingOf u (bookOf s)))
+    (λ none. ap isTenant (sym (own-list u (bookOf s) none) ∙ list) ∙ tenant)
+    (λ branch. let low = branch-below u (bookOf s) (good s undamaged) branch in tenant-is u (omega arith))
 
 -- two undamaged books in which tenant t has one setting and the same under a name
 module _ (s s′ : List ℕ) (t name : ℕ) (undamaged : isBook s ≡ true) (undamaged′ : isBook s′ ≡ true)
@@ -73,20 +90,20 @@ module _ (s : List ℕ) (t name : ℕ) (undamaged : isBook s ≡ true) (tenant :
         rw (undamaged, order .registered, tenant, le-leb 76 room (order .roomy), is-name, order .date, le-leb level 1 (order .low), order .ship, absent);
   }
 
--- a call on an undamaged book that gives tenant t these cells and leaves its setting
-module _ (s : List ℕ) (t : ℕ) (call : Call) (undamaged : isBook s ≡ true) (cells : List Held)
-    (does : after (changeOf t call (ownIn s t)) (ownIn s t) ≡ record { setting = ownIn s t .setting; cells = cells }) where
+-- tenant t's call on an undamaged book, which does this to the cells of tenant u, who reads its list
+module _ (s : List ℕ) (t u : ℕ) (call : Call) (undamaged : isBook s ≡ true) (list : listIn s u ≡ t) (does : changesCells call ≡ true)
+    (cells : List Held) (so : after (changeOf t call (ownIn s t)) (ownIn s u) ≡ record { setting = ownIn s u .setting; cells = cells }) where
   abbrev then : List ℕ
   then = bookAfter t call s
 
-  setting-kept : ownIn then t .setting ≡ ownIn s t .setting
-  setting-kept = ap (λ (o : Own). o .setting) (own-then s t call undamaged ∙ does)
+  setting-kept : ownIn then u .setting ≡ ownIn s u .setting
+  setting-kept = ap (λ (o : Own). o .setting) (reader-then s t u call undamaged list does ∙ so)
 
-  held-then : (name : ℕ) → cellOf name (ownIn then t .cells) ≡ cellOf name cells
-  held-then name = ap (λ (o : Own). cellOf name (o .cells)) (own-then s t call undamaged ∙ does)
+  held-then : (name : ℕ) → cellOf name (ownIn then u .cells) ≡ cellOf name cells
+  held-then name = ap (λ (o : Own). cellOf name (o .cells)) (reader-then s t u call undamaged list does ∙ so)
 
-  leaves : (name : ℕ) → cellOf name cells ≡ cellOf name (ownIn s t .cells) → GivesTheSame s then t name
-  leaves name same = gives-the-same s then t name undamaged (still-undamaged s t call undamaged) setting-kept (held-then name ∙ same)
+  leaves : (name : ℕ) → cellOf name cells ≡ cellOf name (ownIn s u .cells) → GivesTheSame s then u name
+  leaves name same = gives-the-same s then u name undamaged (still-undamaged s t call undamaged) setting-kept (held-then name ∙ same)
 
 -- entering
 module _ (s : List ℕ) (t : ℕ) (cell : Held) (done : changeNumber (entry s t cell) ≡ 0) where
@@ -94,28 +111,35 @@ module _ (s : List ℕ) (t : ℕ) (cell : Held) (done : changeNumber (entry s t 
   unfolding entry
   entered-passed = not-refused (isBook s) 101 (entering t cell (ownIn s t)) (λ e. omega arith) done
 
-  pub entered-so : (isTenant t ≡ true) × ((isHeld cell ≡ true) × (entering t cell (ownIn s t) ≡ enters cell))
+  pub entered-so : (isTenant t ≡ true) × ((isHeld cell ≡ true) × ((namesNone (ownIn s t .setting) ≡ true) × (entering t cell (ownIn s t) ≡ enters cell)))
   unfolding entering
   entered-so =
       let one = not-refused (isTenant t) 102 _ (λ e. omega arith) (entered-passed .1) in
       let two = not-refused (isHeld cell) 103 _ (λ e. omega arith) (one .1) in
-      let three = not-refused (hasRoom cell (ownIn s t)) 105 (enters cell) (λ e. omega arith) (two .1) in
-      (one .0, (two .0, rw (one .0, two .0, three .0) refl))
+      let three = not-refused (namesNone (ownIn s t .setting)) 111 _ (λ e. omega arith) (two .1) in
+      let four = not-refused (hasRoom cell (ownIn s t)) 105 (enters cell) (λ e. omega arith) (three .1) in
+      (one .0, (two .0, (three .0, rw (one .0, two .0, three .0, four .0) refl)))
 
-  enters-it : after (changeOf t (enter cell) (ownIn s t)) (ownIn s t) ≡ record { setting = ownIn s t .setting; cells = entered cell (ownIn s t .cells) }
-  enters-it = ap (λ (c : Change). after c (ownIn s t)) (entered-so .1 .1)
+  enters-it : (u : ℕ) → after (changeOf t (enter cell) (ownIn s t)) (ownIn s u) ≡ record { setting = ownIn s u .setting; cells = entered cell (ownIn s u .cells) }
+  enters-it u = ap (λ (c : Change). after c (ownIn s u)) (entered-so .1 .1 .1)
 
 pub enter-done : EnterDone
+unfolding ownOf
 enter-done s t cell done =
     let undamaged = entered-passed s t cell done .0 in
     let so = entered-so s t cell done in
     let it = enters-it s t cell done in
-    let kept = setting-kept s t (enter cell) undamaged _ it in (
-      rw kept at
-          (gives-cell (enteredBook s t cell) t cell (still-undamaged s t (enter cell) undamaged) (so .0) (held-fits cell (so .1 .0) .name)
-          (held-then s t (enter cell) undamaged _ it (cell .name) ∙ held-as-entered cell (ownIn s t .cells))),
-      (λ name other. leaves s t (enter cell) undamaged _ it name (others-after-entering cell (ownIn s t .cells) name other), kept),
-    )
+    record {
+      own = own-list t (bookOf s) (so .1 .1 .0);
+      gives = λ u list.
+          rw (setting-kept s t u (enter cell) undamaged list refl _ (it u)) at
+          (gives-cell (enteredBook s t cell) u cell (still-undamaged s t (enter cell) undamaged) (reader-tenant s t u undamaged (so .0) list)
+          (held-fits cell (so .1 .0) .name)
+          (held-then s t u (enter cell) undamaged list refl _ (it u) (cell .name) ∙ held-as-entered cell (ownIn s u .cells)));
+      others = λ u list name other.
+          leaves s t u (enter cell) undamaged list refl _ (it u) name (others-after-entering cell (ownIn s u .cells) name other);
+      setting = λ u list. setting-kept s t u (enter cell) undamaged list refl _ (it u);
+    }
 
 -- withdrawing
 module _ (s : List ℕ) (t name : ℕ) (done : changeNumber (withdrawal s t name) ≡ 0) where
@@ -123,33 +147,38 @@ module _ (s : List ℕ) (t name : ℕ) (done : changeNumber (withdrawal s t name
   unfolding withdrawal
   withdrawn-passed = not-refused (isBook s) 101 (withdrawing t name (ownIn s t)) (λ e. omega arith) done
 
-  pub withdrawn-so : (isTenant t ≡ true) × ((isCellName name ≡ true) × (withdrawing t name (ownIn s t) ≡ withdraws name))
+  pub withdrawn-so : (isTenant t ≡ true)
+      × ((isCellName name ≡ true) × ((namesNone (ownIn s t .setting) ≡ true) × (withdrawing t name (ownIn s t) ≡ withdraws name)))
   unfolding withdrawing
   withdrawn-so =
       let one = not-refused (isTenant t) 102 _ (λ e. omega arith) (withdrawn-passed .1) in
       let two = not-refused (isCellName name) 103 _ (λ e. omega arith) (one .1) in
-      let three = not-refused (isSome (cellOf name (ownIn s t .cells))) 104 (withdraws name) (λ e. omega arith) (two .1) in
-      (one .0, (two .0, rw (one .0, two .0, three .0) refl))
+      let three = not-refused (namesNone (ownIn s t .setting)) 111 _ (λ e. omega arith) (two .1) in
+      let four = not-refused (isSome (cellOf name (ownIn s t .cells))) 104 (withdraws name) (λ e. omega arith) (three .1) in
+      (one .0, (two .0, (three .0, rw (one .0, two .0, three .0, four .0) refl)))
 
-  withdraws-it : after (changeOf t (withdraw name) (ownIn s t)) (ownIn s t) ≡ record { setting = ownIn s t .setting; cells = withdrawn name (ownIn s t .cells) }
-  withdraws-it = ap (λ (c : Change). after c (ownIn s t)) (withdrawn-so .1 .1)
+  withdraws-it : (u : ℕ) → after (changeOf t (withdraw name) (ownIn s t)) (ownIn s u) ≡ record { setting = ownIn s u .setting; cells = withdrawn name (ownIn s u .cells) }
+  withdraws-it u = ap (λ (c : Change). after c (ownIn s u)) (withdrawn-so .1 .1 .1)
 
-  not-there : cellOf name (withdrawn name (ownIn s t .cells)) ≡ none
+  not-there : (u : ℕ) → cellOf name (withdrawn name (ownIn s u .cells)) ≡ none
   unfolding ownOf
-  not-there = not-held-afterwards (bookOf s) t name (undamaged-says s (withdrawn-passed .0) .0)
+  not-there u = not-held-afterwards (bookOf s) (listIn s u) name (undamaged-says s (withdrawn-passed .0) .0)
 
 pub withdraw-done : WithdrawDone
+unfolding ownOf
 withdraw-done s t name done =
     let undamaged = withdrawn-passed s t name done .0 in
     let so = withdrawn-so s t name done in
-    let it = withdraws-it s t name done in (
-      gives-nothing (withdrawnBook s t name) t name (still-undamaged s t (withdraw name) undamaged) (so .0) (so .1 .0)
-          (held-then s t (withdraw name) undamaged _ it name ∙ not-there s t name done),
-      (
-        λ other apart. leaves s t (withdraw name) undamaged _ it other (others-after-withdrawing (ownIn s t .cells) name other apart),
-        setting-kept s t (withdraw name) undamaged _ it,
-      ),
-    )
+    let it = withdraws-it s t name done in
+    record {
+      own = own-list t (bookOf s) (so .1 .1 .0);
+      gives = λ u list.
+          gives-nothing (withdrawnBook s t name) u name (still-undamaged s t (withdraw name) undamaged) (reader-tenant s t u undamaged (so .0) list) (so .1 .0)
+          (held-then s t u (withdraw name) undamaged list refl _ (it u) name ∙ not-there s t name done u);
+      others = λ u list other apart.
+          leaves s t u (withdraw name) undamaged list refl _ (it u) other (others-after-withdrawing (ownIn s u .cells) name other apart);
+      setting = λ u list. setting-kept s t u (withdraw name) undamaged list refl _ (it u);
+    }
 
 -- setting days
 pub days-done : DaysDone
@@ -163,6 +192,6 @@ days-done s t days done =
       ap (λ (o : Own). o .setting .days) own,
       (
         ap (λ (o : Own). o .setting .quota) own,
-        (ap (λ (o : Own). o .setting .server) own, ap (λ (o : Own). o .cells) own),
+        (ap (λ (o : Own). o .setting .server) own, (ap (λ (o : Own). o .setting .principal) own, ap (λ (o : Own). o .cells) own)),
       ),
     )

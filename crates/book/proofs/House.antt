@@ -11,12 +11,13 @@ use Rattle.forms.proofs.Demands.{demanded}
 use Rattle.tenants.specs.declared.Held.{Held}
 use Rattle.tenants.specs.declared.Asked.the-variants as asked
 use Rattle.tenants.specs.Cells.{cellOf}
-use Rattle.tenants.specs.Rules.{Change, enters, withdraws, refuses, changeNumber, isTenant, isHeld, isSome, editionOf, entering, asking}
+use Rattle.tenants.specs.Rules.{Change, enters, withdraws, refuses, changeNumber, isTenant, isHeld, namesNone, isSome, editionOf, entering, asking}
 use Rattle.tenants.specs.Calls.{enter, withdraw, number}
-use Rattle.tenants.specs.Together.{Book, fullName, inBook, changed}
+use Rattle.tenants.specs.Together.{Book, fullName, inBook, ownOf, changed}
 use Rattle.tenants.specs.House.{isLater, laterIn}
 use Rattle.tenants.proofs.Ranges.{name-below, held-below, held-fits}
 use Rattle.tenants.proofs.Allowed.{hasRoom, allowed}
+use Rattle.tenants.proofs.Kept.{own-list}
 use Rattle.tenants.proofs.Later.{later-around, later-around-it, replaced-moves-none as none-replaced, new-moves-later}
 use Rattle.layout.specs.Layout.{bookOf, isBook, ownIn}
 use Rattle.records.proofs.Found.{Here, Gone}
@@ -52,7 +53,8 @@ replaced-moves-none s t cell e told =
     demanded none-moved (isBook s) (refuses 101) (entering t cell (ownIn s t)) refl
     (λ _. demanded none-moved (isTenant t) (refuses 102) _ refl
     (λ _. demanded none-moved (isHeld cell) (refuses 103) _ refl
-    (λ _. demanded none-moved (hasRoom cell (ownIn s t)) (refuses 105) (enters cell) refl (λ _. none-replaced t cell (bookOf s) (held .0) (held .1)))))
+    (λ _. demanded none-moved (namesNone (ownIn s t .setting)) (refuses 111) _ refl
+    (λ _. demanded none-moved (hasRoom cell (ownIn s t)) (refuses 105) (enters cell) refl (λ _. none-replaced t cell (bookOf s) (held .0) (held .1))))))
 
 -- who is told 104 does not hold the cell
 told-absent : (held : Option Held) → editionOf held ≡ asked.Refused 104 → held ≡ none
@@ -65,7 +67,7 @@ module _ (s : List ℕ) (t : ℕ) (cell : Held) (done : changeNumber (entry s t 
 
   enters-it : entry s t cell ≡ enters cell
   unfolding entry
-  enters-it = rw undamaged (entered-so s t cell done .1 .1)
+  enters-it = rw undamaged (entered-so s t cell done .1 .1 .1)
 
   absent : cellOf (cell .name) (ownIn s t .cells) ≡ none
   unfolding editionIn asking
@@ -74,13 +76,16 @@ module _ (s : List ℕ) (t : ℕ) (cell : Held) (done : changeNumber (entry s t 
       told-absent (cellOf (cell .name) (ownIn s t .cells)) (rw (undamaged, so .0, held-fits cell (so .1 .0) .name) at new)
 
   book-then : bookOf (bookAfter t (enter cell) s) ≡ changed t (enters cell) (bookOf s)
-  book-then = book-after s t (enter cell) undamaged ∙ ap (λ (c : Change). changed t c (bookOf s)) (entered-so s t cell done .1 .1)
+  book-then = book-after s t (enter cell) undamaged ∙ ap (λ (c : Change). changed t c (bookOf s)) (entered-so s t cell done .1 .1 .1)
 
   moved-is : movedRecords (houseEnter s t cell) ≡ laterIn (changed t (enters cell) (bookOf s)) t (cell .name)
   moved-is = ap (λ (c : Change). movedRecords (houseAnswer t s c)) enters-it ∙ new-moves-later t cell (bookOf s) absent
 
   around : (i : ℕ) × Gone (fullName t (cell .name)) (bookOf s .records) i
-  around = absent-somewhere s undamaged t (cell .name) (held-below cell (entered-so s t cell done .1 .0)) (ap isSome absent)
+  unfolding ownOf
+  around =
+      let so = entered-so s t cell done .1 in
+      absent-somewhere s undamaged t (cell .name) (held-below cell (so .0)) (ap isSome (rw (own-list t (bookOf s) (so .1 .0)) at absent))
 
 pub enter-moves : EnterMoves
 enter-moves s t cell told new =
@@ -109,18 +114,19 @@ module _ (s : List ℕ) (t name : ℕ) (done : changeNumber (withdrawal s t name
 
   withdraws-it : withdrawal s t name ≡ withdraws name
   unfolding withdrawal
-  withdraws-it = rw whole (withdrawn-so s t name done .1 .1)
+  withdraws-it = rw whole (withdrawn-so s t name done .1 .1 .1)
 
   book-without : bookOf (bookAfter t (withdraw name) s) ≡ changed t (withdraws name) (bookOf s)
-  book-without = book-after s t (withdraw name) whole ∙ ap (λ (c : Change). changed t c (bookOf s)) (withdrawn-so s t name done .1 .1)
+  book-without = book-after s t (withdraw name) whole ∙ ap (λ (c : Change). changed t c (bookOf s)) (withdrawn-so s t name done .1 .1 .1)
 
   moved-then : movedRecords (houseWithdraw s t name) ≡ laterIn (changed t (withdraws name) (bookOf s)) t name
   moved-then = ap (λ (c : Change). movedRecords (houseAnswer t s c)) withdraws-it
 
   held-there : (i : ℕ) × Here (fullName t name) (bookOf s .records) i
+  unfolding ownOf
   held-there =
-      let so = rw (withdrawn-so s t name done .1 .1) at (allowed t (ownIn s t) (withdraw name)) in
-      held-somewhere s whole t name (name-below name (so .1 .0)) (so .1 .1)
+      let so = rw (withdrawn-so s t name done .1 .1 .1) at (allowed t (ownIn s t) (withdraw name)) in
+      held-somewhere s whole t name (name-below name (so .1 .0)) (rw (own-list t (bookOf s) (so .1 .1 .0)) at (so .1 .1 .1))
 
 pub withdraw-moves : WithdrawMoves
 withdraw-moves s t name told =

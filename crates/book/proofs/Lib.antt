@@ -1,11 +1,13 @@
 pub mod Undamaged
 pub mod Mixes
+pub mod PlacesChanged
 pub mod Untouched
-pub mod QuotaRules
 pub mod FirstCell
 pub mod Issues
 pub mod DoneCalls
+pub mod QuotaRules
 pub mod Producers
 pub mod House
+pub mod NoBranches
 pub mod EitherCases
 pub mod IssuedCapitals

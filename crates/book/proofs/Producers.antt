@@ -20,13 +20,13 @@ use Rattle.tenants.specs.Rules.{isTenant, editionOf, asking, askingProducer}
 use Rattle.tenants.specs.Together.{BookRecord, tenantOf, nameOf, cellsOf, ownOf}
 use Rattle.tenants.proofs.Ordered.{found-name}
 use Rattle.tenants.proofs.Producers.{holds-found, one-held, name-producer}
-use Rattle.layout.specs.Layout.{bookOf, isBook, ownIn}
+use Rattle.layout.specs.Layout.{bookOf, isBook, listIn, ownIn}
 use Rattle.asking.specs.Asking.{editionIn, holdingIn}
 use Rattle.asking.proofs.AnswerRules.{edition-ruled, asking-held, holding-any}
 use Rattle.asking.proofs.LineWritten.{fits}
 use Rattle.book.specs.Producers.{anyRecord, AsEveryRecord, AsEditions}
 
--- a tenant's cells are the records that are its own
+-- the cells of a list are the records under its number
 every-record : (t producer : ℕ) (records : List BookRecord) → holdsAny producer (cellsOf t records) ≡ anyRecord t producer records
 unfolding cellsOf holdsAny anyRecord
 every-record t producer [] = refl
@@ -38,7 +38,7 @@ every-record t producer (r ∷ records) =
 pub as-every-record : AsEveryRecord
 unfolding ownOf
 as-every-record s t producer undamaged tenant fit =
-    holding-any s t producer undamaged tenant fit ∙ ap of-producer.Any (every-record t producer (bookOf s .records))
+    holding-any s t producer undamaged tenant fit ∙ ap of-producer.Any (every-record (listIn s t) producer (bookOf s .records))
 
 -- a refusal is neither yes nor an edition
 never-any : {n : ℕ} → _≡_ {A = Holding} (of-producer.Refused n) (of-producer.Any true) → ⊥

@@ -1,4 +1,4 @@
--- What the book promises of a call that is done: what the tenant's own calls answer afterwards.
+-- What the book promises of a call that is done: what the calls of the tenant, and of its branches, answer afterwards.
 use mathlib.Core.Path.{_≡_}
 use mathlib.Core.Bool.{true}
 use mathlib.Core.List.{List, _++_}
@@ -15,7 +15,7 @@ use Rattle.tenants.specs.declared.Held.{Held}
 use Rattle.tenants.specs.declared.Setting.{Setting}
 use Rattle.tenants.specs.declared.Asked.the-variants.{Edition, Refused}
 use Rattle.tenants.specs.Rules.{lineCell, changeNumber}
-use Rattle.layout.specs.Layout.{ownIn}
+use Rattle.layout.specs.Layout.{listIn, ownIn}
 use Rattle.changing.specs.Changing.{entry, withdrawal, newDays, bytesAfter}
 use Rattle.asking.specs.Asking.{editionIn, issuedFrom, checkedBy}
 
@@ -61,21 +61,25 @@ pub record GivesNothing (s : List ℕ) (t name : ℕ) : Type 0 where
   pub issued : (register permit : List ℕ) (expiry level room hw m : ℕ) → GoodOrder register permit expiry level room hw m
       → issuedFrom s register t name expiry level permit room ≡ refusal 104
 
--- after a done enter the name gives exactly that cell, every other name what it gave, and the setting is as it was
+-- a call changed what is held under a name: whoever reads tenant t's list, t itself and its branches, is given what then holds of that name,
+-- under every other name what it was given before, and has the setting that it had
+pub record Reaches (s after : List ℕ) (t name : ℕ) (Gives : ℕ → Type 0) : Type 0 where
+  pub own : listIn s t ≡ t
+  pub gives : (u : ℕ) → listIn s u ≡ t → Gives u
+  pub others : (u : ℕ) → listIn s u ≡ t → (other : ℕ) → (other ≡ name → ⊥) → GivesTheSame s after u other
+  pub setting : (u : ℕ) → listIn s u ≡ t → ownIn after u .setting ≡ ownIn s u .setting
+
+-- after a done enter the name gives exactly that cell
 abbrev pub EnterDone : Type 0
 EnterDone =
     (s : List ℕ) (t : ℕ) (cell : Held) → changeNumber (entry s t cell) ≡ 0
-    → GivesCell (enteredBook s t cell) t (ownIn s t .setting) cell
-    × (((name : ℕ) → (name ≡ cell .name → ⊥) → GivesTheSame s (enteredBook s t cell) t name)
-    × (ownIn (enteredBook s t cell) t .setting ≡ ownIn s t .setting))
+    → Reaches s (enteredBook s t cell) t (cell .name) (λ (u : ℕ). GivesCell (enteredBook s t cell) u (ownIn s u .setting) cell)
 
--- after a done withdraw the name is not held, every other name gives what it gave, and the setting is as it was
+-- after a done withdraw the name is not held
 abbrev pub WithdrawDone : Type 0
 WithdrawDone =
     (s : List ℕ) (t name : ℕ) → changeNumber (withdrawal s t name) ≡ 0
-    → GivesNothing (withdrawnBook s t name) t name
-    × (((other : ℕ) → (other ≡ name → ⊥) → GivesTheSame s (withdrawnBook s t name) t other)
-    × (ownIn (withdrawnBook s t name) t .setting ≡ ownIn s t .setting))
+    → Reaches s (withdrawnBook s t name) t name (λ (u : ℕ). GivesNothing (withdrawnBook s t name) u name)
 
 -- after days are set the setting has them and is else the same, and so are the cells
 abbrev pub DaysDone : Type 0
@@ -84,4 +88,5 @@ DaysDone =
     → (ownIn (daysBook s t days) t .setting .days ≡ days)
     × ((ownIn (daysBook s t days) t .setting .quota ≡ ownIn s t .setting .quota)
     × ((ownIn (daysBook s t days) t .setting .server ≡ ownIn s t .setting .server)
-    × (ownIn (daysBook s t days) t .cells ≡ ownIn s t .cells)))
+    × ((ownIn (daysBook s t days) t .setting .principal ≡ ownIn s t .setting .principal)
+    × (ownIn (daysBook s t days) t .cells ≡ ownIn s t .cells))))

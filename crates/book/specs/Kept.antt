@@ -1,4 +1,5 @@
--- What the book promises of one call: undamaged stays undamaged, others are not touched, a refusal changes nothing, what is issued reads back.
+-- What the book promises of one call: undamaged stays undamaged, others are not touched but branches by their principal, a refusal changes nothing,
+-- what is issued reads back.
 use mathlib.Core.Path.{_≡_}
 use mathlib.Core.Bool.{true}
 use mathlib.Core.List.{List, _++_}
@@ -15,17 +16,32 @@ use Rattle.tenants.specs.declared.Held.{Held}
 use Rattle.tenants.specs.Cells.{cellOf}
 use Rattle.tenants.specs.Rules.{isTenant, lineCell}
 use Rattle.tenants.specs.Calls.{Call, answerNumber}
-use Rattle.layout.specs.Layout.{isBook, ownIn}
+use Rattle.layout.specs.Layout.{bookOf, isBook, listIn, ownIn}
 use Rattle.asking.specs.Asking.{issuedFrom, checkedBy}
 use Rattle.book.specs.OnBook.{answerIn, bookAfter}
+use Rattle.book.specs.Mixed.{IsBranch}
 
 -- undamaged stays undamaged
 abbrev pub StaysUndamaged : Type 0
 StaysUndamaged = (s : List ℕ) (t : ℕ) (call : Call) → isBook s ≡ true → isBook (bookAfter t call s) ≡ true
 
--- a call by one tenant leaves every other tenant's cells and setting as they were
+-- a call by one tenant leaves the cells and setting of every other that is not its branch as they were
 abbrev pub OthersUntouched : Type 0
-OthersUntouched = (s : List ℕ) (t u : ℕ) (call : Call) → isBook s ≡ true → (u ≡ t → ⊥) → ownIn (bookAfter t call s) u ≡ ownIn s u
+OthersUntouched =
+    (s : List ℕ) (t u : ℕ) (call : Call) → isBook s ≡ true → (u ≡ t → ⊥) → (listIn s u ≡ t → ⊥) → ownIn (bookAfter t call s) u ≡ ownIn s u
+
+-- of its branch it leaves the setting, and the cells are then those that it has itself
+abbrev pub BranchesSee : Type 0
+BranchesSee =
+    (s : List ℕ) (t u : ℕ) (call : Call) → isBook s ≡ true → (u ≡ t → ⊥) → listIn s u ≡ t
+    → (ownIn (bookAfter t call s) u .setting ≡ ownIn s u .setting)
+    × (ownIn (bookAfter t call s) u .cells ≡ ownIn (bookAfter t call s) t .cells)
+
+-- a branch's call changes nobody's cells
+abbrev pub BranchLeavesCells : Type 0
+BranchLeavesCells =
+    (s : List ℕ) (t : ℕ) (call : Call) → isBook s ≡ true → IsBranch s t
+    → (bookOf (bookAfter t call s) .records ≡ bookOf s .records) × ((u : ℕ) → ownIn (bookAfter t call s) u .cells ≡ ownIn s u .cells)
 
 -- a refusal leaves the book as it was, and so does every other answer whose number is not 0; of a damaged book too
 abbrev pub RefusalLeaves : Type 0

@@ -5,4 +5,5 @@ pub mod DoneCalls
 pub mod Producers
 pub mod House
 pub mod Quotas
+pub mod NoBranches
 pub mod EitherCase

@@ -32,10 +32,11 @@ use Rattle.tenants.specs.Rules.{
 use Rattle.tenants.specs.Calls.{Call, enter, withdraw, setDays, askEdition, askProducer, issue, check, changeOf}
 use Rattle.tenants.specs.Alone.{Made, after}
 use Rattle.tenants.specs.Branches.{changesCells, asKept}
-use Rattle.tenants.specs.Together.{BookRecord, Book, cellsOf, settingOf, listOf, ownOf, changed}
+use Rattle.tenants.specs.Together.{BookRecord, Book, cellsOf, noSetting, settingOf, listOf, ownOf, changed}
+use Rattle.tenants.proofs.Ordered.{equal-or-not}
 use Rattle.tenants.proofs.Allowed.{Allowed, allowed, hasRoom}
 use Rattle.tenants.proofs.Goodness.{Good}
-use Rattle.tenants.proofs.Kept.{keptOf, own-kept, own-list, quota-stays, none-stays, list-stays, principal-none}
+use Rattle.tenants.proofs.Kept.{keptOf, own-kept, none-stays, list-stays, keeper-none}
 use Rattle.tenants.proofs.Apart.{kept-after, other-after}
 
 -- a change that leaves the cells, and one that leaves the setting
@@ -190,32 +191,39 @@ module _ (book : Book) (good : Good book) where
       (records-stay u book (changeOf u call (ownOf u book)) (leaves-cells u (ownOf u book) call not))
       ∙ sym (view t book (listOf t book) refl)
 
-  -- the principal's enter and withdraw change a branch's cells, as on one list with the principal's quota
+  -- a branch's call changes nobody's cells
+  pub branch-leaves-cells : (t : ℕ) (call : Call) → namesNone (settingOf t book) ≡ false → called t call .records ≡ book .records
+  unfolding ownOf
+  branch-leaves-cells t call branch =
+      let change : Change = changeOf t call (ownOf t book) in
+      records-stay t book change (branch-leaves t (ownOf t book) change (allowed t (ownOf t book) call) branch)
+
+  -- whoever reads a list sees what its keeper's enter and withdraw change
+  pub reader-after : (t u : ℕ) (call : Call) → listOf t book ≡ u → changesCells call ≡ true
+      → ownOf t (called u call) ≡ after (changeOf u call (ownOf u book)) (ownOf t book)
+  unfolding ownOf
+  reader-after t u call list does =
+      equal-or-not t u
+      (λ self. rw self (own-after u call))
+      (λ apart. view-after t u call
+      ∙ ap₂ joined (other-after u t call book apart) (ap (λ (l : ℕ). keptOf l (called u call)) list ∙ kept-after u call book good)
+      ∙ after-leaves-setting (changeOf u call (ownOf u book)) (ownOf t book) (keptOf u book)
+      (ap (λ (l : ℕ). cellsOf l (book .records)) list) (leaves-setting u (ownOf u book) call does))
+
+  -- a branch does so as on one list with the principal's quota
   pub branch-after : (t u : ℕ) (call : Call) → (t ≡ u → ⊥) → listOf t book ≡ u → changesCells call ≡ true
       → ownOf t (called u call) ≡ after (changeOf u call (asKept (settingOf u book .quota) (ownOf t book))) (ownOf t book)
   unfolding ownOf namesNone
   branch-after t u call apart list does =
-      view-after t u call
-      ∙ ap₂ joined (other-after u t call book apart)
-      (ap (λ (l : ℕ). keptOf l (called u call)) list ∙ kept-after u call book good)
-      ∙ after-leaves-setting change (ownOf t book) (keptOf u book) shared (leaves-setting u (ownOf u book) call does)
+      reader-after t u call list does
       ∙ ap (λ (c : Change). after c (ownOf t book))
-      (same-cell-change u (ownOf u book) (asKept (settingOf u book .quota) (ownOf t book)) refl keeps (own-cells ∙ sym shared) call does)
+      (same-cell-change u (ownOf u book) (asKept (settingOf u book .quota) (ownOf t book)) refl keeps cells call does)
     where
-      change : Change
-      change = changeOf u call (ownOf u book)
-
-      branch : namesNone (settingOf t book) ≡ false
-      branch = either (namesNone (settingOf t book)) (λ none. absurd (apart (sym (own-list t book none) ∙ list))) (λ is. is)
-
       none : namesNone (settingOf u book) ≡ true
-      none = rw list at (principal-none t book good branch)
+      none = keeper-none t u book good apart list
 
-      keeps : namesNone (settingOf u book) ≡ namesNone (record { quota = 0; days = 0; server = 0; principal = 0 })
+      keeps : namesNone (settingOf u book) ≡ namesNone noSetting
       keeps = none
 
-      shared : ownOf t book .cells ≡ keptOf u book .cells
-      shared = ap (λ (l : ℕ). cellsOf l (book .records)) list
-
-      own-cells : ownOf u book .cells ≡ keptOf u book .cells
-      own-cells = ap (λ (o : Own). o .cells) (own-kept u book none)
+      cells : ownOf u book .cells ≡ ownOf t book .cells
+      cells = ap (λ (o : Own). o .cells) (own-kept u book none) ∙ ap (λ (l : ℕ). cellsOf l (book .records)) (sym list)

@@ -87,6 +87,12 @@ module _ (t : ℕ) (book : Book) (u : ℕ) where
   unfolding listOf namesNone
   list-stays change = ap (λ (p : ℕ). cond (eqb p 0) u (p - 1)) (principal-stays change)
 
+-- a branch has no quota
+pub quota-none : (t : ℕ) (book : Book) → isPrincipal (book .settings) t (settingOf t book) ≡ true → namesNone (settingOf t book) ≡ false
+    → (settingOf t book .quota ≡ 0 → ⊥) → ⊥
+unfolding isPrincipal
+quota-none t book right branch more = more (eqb-true (settingOf t book .quota) 0 (search (and-second, rw branch at right)))
+
 -- of a good book a branch's principal keeps its own list
 module _ (t : ℕ) (book : Book) (good : Good book) (branch : namesNone (settingOf t book) ≡ false) where
   pub branch-below : t < 16
@@ -102,3 +108,10 @@ module _ (t : ℕ) (book : Book) (good : Good book) (branch : namesNone (setting
   principal-none =
       let right : isPrincipal (book .settings) t (settingOf t book) ≡ true = good .named t branch-below in
       rw branch (search (and-first, and-second, rw branch at right))
+
+-- and so does whoever keeps another's list
+pub keeper-none : (t u : ℕ) (book : Book) → Good book → (t ≡ u → ⊥) → listOf t book ≡ u → namesNone (settingOf u book) ≡ true
+keeper-none t u book good apart list =
+    either (namesNone (settingOf t book))
+    (λ none. absurd (apart (sym (own-list t book none) ∙ list)))
+    (λ branch. rw list at (principal-none t book good branch))
