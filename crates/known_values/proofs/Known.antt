@@ -36,5 +36,5 @@ known =
     and refl
     and refl
     and (λ today days. refl)
-    and (λ quotas ids s book t cell made tenant roomy held. first-cell quotas ids t cell tenant roomy held s book made)
+    and (λ quotas ids principals s book t cell made tenant roomy held. first-cell quotas ids principals t cell tenant roomy held s book made)
     and tt

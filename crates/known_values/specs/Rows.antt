@@ -85,8 +85,8 @@ Holds (sixBytes given bytes) = hwId6 given ≡ bytes
 Holds (inHex given characters) = mIdPart given ≡ characters
 Holds (refusedHwId given number) = (today days : ℕ) → givenNumber given today days ≡ number
 Holds (usedAfterEntering used) =
-    (quotas ids s book : List ℕ) (t : ℕ) (cell : Held)
-    → opened quotas ids s ≡ text book → isTenant t ≡ true → 0 < getD quotas t 0 → isHeld cell ≡ true
+    (quotas ids principals s book : List ℕ) (t : ℕ) (cell : Held)
+    → opened quotas ids principals s ≡ text book → isTenant t ≡ true → 0 < getD quotas t 0 → isHeld cell ≡ true
     → usedIn (bytesAfter t (entry book t cell) book) ≡ used
 
 -- each row of a list holds

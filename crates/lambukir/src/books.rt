@@ -51,11 +51,16 @@ fn records_moved(answer: Moved) -> RecordsMoved
 }
 
 #[no_mangle]
-pub extern "C" fn lambukir_open_book(book: &mut [u8], quotas: &[u16], ids: &[u8]) -> u32
-    ensures { λ r. ⌜ (r ≡ output.writtenNumber (writtenOf (opened (now (quotas .entry)) (now (ids .entry)) (now (book .entry)))))
-        × (now (book .exit) ≡ lentAfter (opened (now (quotas .entry)) (now (ids .entry)) (now (book .entry))) (now (book .entry))) ⌝ }
+pub extern "C" fn lambukir_open_book(
+    book: &mut [u8],
+    quotas: &[u16],
+    ids: &[u8],
+    principals: &[u8],
+) -> u32
+    ensures { λ r. ⌜ (r ≡ output.writtenNumber (writtenOf (opened (now (quotas .entry)) (now (ids .entry)) (now (principals .entry)) (now (book .entry)))))
+        × (now (book .exit) ≡ lentAfter (opened (now (quotas .entry)) (now (ids .entry)) (now (principals .entry)) (now (book .entry))) (now (book .entry))) ⌝ }
 {
-    opening::open_book(book, quotas, ids)
+    opening::open_book(book, quotas, ids, principals)
 }
 
 #[no_mangle]

@@ -53,9 +53,9 @@ unfolding areSettings arePrincipals quotaSum
 settings-fit all t [] good named most = tt
 settings-fit all t (x ∷ settings) good named most = (
   setting-fits x (and-first (isSetting x) (areSettings settings) good)
-  (principal-below all t x (and-first (isPrincipal all t x) (arePrincipals all (suc t) settings) named)) (omega arith),
+      (principal-below all t x (and-first (isPrincipal all t x) (arePrincipals all (suc t) settings) named)) (omega arith),
   settings-fit all (suc t) settings (and-second (isSetting x) (areSettings settings) good)
-  (and-second (isPrincipal all t x) (arePrincipals all (suc t) settings) named) (omega arith),
+      (and-second (isPrincipal all t x) (arePrincipals all (suc t) settings) named) (omega arith),
 )
 
 full-name-fits : (full : ℕ) → full / 18446744073709551616 ≤ 15 → full < 256 ^ 9

@@ -34,6 +34,7 @@ rows =
     ∷ (108, "the output is too short")
     ∷ (109, "the register is damaged")
     ∷ (110, "a cell has two rows in the product list")
+    ∷ (111, "a branch cannot enter or withdraw")
     ∷ []
 
 -- what a number means by some rows

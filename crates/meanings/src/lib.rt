@@ -43,6 +43,7 @@ pub fn meaning(number: u32) -> [u8; 64]
         108 => spelled(b"the output is too short"),
         109 => spelled(b"the register is damaged"),
         110 => spelled(b"a cell has two rows in the product list"),
+        111 => spelled(b"a branch cannot enter or withdraw"),
         _ => spelled(b"a number that no call gives"),
     }
 }

@@ -56,7 +56,7 @@ module _ (quotas ids principals : List ℕ) where
       let front = and-first (sixteenQuotas && fewCells && goodIds) goodPrincipals good in (
         eqb-true (length quotas) 16 (and-first sixteenQuotas fewCells (and-first (sixteenQuotas && fewCells) goodIds front)),
         eqb-true (length principals) 16
-        (and-first (eqb (length principals) 16) (arePrincipals settings 0 settings) (and-second (sixteenQuotas && fewCells && goodIds) goodPrincipals good)),
+            (and-first (eqb (length principals) 16) (arePrincipals settings 0 settings) (and-second (sixteenQuotas && fewCells && goodIds) goodPrincipals good)),
       )
 
   -- sixteen quotas, and their sum

@@ -146,6 +146,12 @@ slice-aggregate-spelled-22 c = search needs
 spelled-requires-22 : tie.Need-spelled-requires-22
 spelled-requires-22 c κs = search needs
 
+slice-aggregate-spelled-23 : tie.Need-slice-aggregate-spelled-23
+slice-aggregate-spelled-23 c = search needs
+
+spelled-requires-23 : tie.Need-spelled-requires-23
+spelled-requires-23 c κs = search needs
+
 returns : tie.Need-returns
 unfolding meaningBy
 returns c = c .spelled .ensures ∙ ap meant (sym (c .before .before .match .keys1))
@@ -232,7 +238,11 @@ returns-21 c = c .spelled21 .ensures ∙ ap meant (sym (c .before .before .match
 
 returns-22 : tie.Need-returns-22
 unfolding meaningBy
-returns-22 c = c .spelled22 .ensures ∙ ap spelled (sym (all-missed _ rows _ (c .before .before .match .rest) .1))
+returns-22 c = c .spelled22 .ensures ∙ ap meant (sym (c .before .before .match .keys22))
+
+returns-23 : tie.Need-returns-23
+unfolding meaningBy
+returns-23 c = c .spelled23 .ensures ∙ ap spelled (sym (all-missed _ rows _ (c .before .before .match .rest) .1))
 
 pub meaning-spec : {M : Type 1} → statement M
 meaning-spec =
@@ -282,6 +292,8 @@ meaning-spec =
     spelled-requires-21
     slice-aggregate-spelled-22
     spelled-requires-22
+    slice-aggregate-spelled-23
+    spelled-requires-23
     returns
     returns-2
     returns-3
@@ -303,4 +315,5 @@ meaning-spec =
     returns-19
     returns-20
     returns-21
-    returns-22)
+    returns-22
+    returns-23)
