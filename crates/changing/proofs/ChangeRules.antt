@@ -1,21 +1,26 @@
 -- What the rules make of entering, withdrawing and setting days, case by case, in the order of the refusals; and who is a branch.
 -- Assumes nothing.
 use mathlib.Core.Path.{_≡_, sym, ap, _∙_}
-use mathlib.Core.Bool.{true, false, or-true}
+use mathlib.Core.Bool.{Bool, true, false, or-true}
 use mathlib.Core.List.{List}
 use mathlib.Core.Option.{none, some}
 use Prim.Native.Nat.{ℕ, _≤_, _<_}
-use borrow.Author.Tests.{lt-ltb, le-ltb, eq-eqb, ne-eqb}
+use native.Mathlib.Omega.{arith}
+use borrow.Author.Tests.{lt-ltb, le-ltb}
+use lib.Dec.{eqb}
 use lib.ListN.{length}
+use Rattle.bytes.proofs.Every.{either}
 use Rattle.dates.specs.Notice.{isDays}
+use Rattle.forms.specs.Order.{demand}
 use Rattle.forms.specs.Identifiers.{isCellName}
+use Rattle.forms.proofs.Demands.{passed}
 use Rattle.tenants.specs.declared.Held.{Held}
 use Rattle.tenants.specs.declared.Setting.{Setting}
 use Rattle.tenants.specs.Cells.{cellOf}
 use Rattle.tenants.specs.Rules.{Change, enters, withdraws, sets, refuses, isTenant, isHeld, namesNone, isSome, entering, withdrawing, settingDays}
 use Rattle.layout.specs.Layout.{settingAt, isBook, ownIn}
 use Rattle.layout.proofs.Indexed.{own-setting}
-use Rattle.changing.specs.Changing.{entry, withdrawal, newDays, bytesAfter}
+use Rattle.changing.specs.Changing.{barredBy, entry, withdrawal, newDays, bytesAfter}
 
 -- a call that does a change, and answers what is answered to it: the house or, by the number, a tenant
 abbrev pub Does : {A : Type 0} → (Change → A) → ℕ → List ℕ → Change → A → List ℕ → Type 0
@@ -31,17 +36,32 @@ module _ {A : Type 0} (answer : Change → A) (t : ℕ) (s : List ℕ) (change :
   does-same same r after e does = rw e does
 
 -- whether a tenant is a branch, as its setting is read
-module _ (s : List ℕ) (t : ℕ) (few : t ≤ 15) (setting : Setting) (read : setting ≡ settingAt s t) where
-  own-read : setting ≡ ownIn s t .setting
-  own-read = read ∙ sym (own-setting s t few)
+pub read-none : (s : List ℕ) (t : ℕ) → t ≤ 15 → (setting : Setting) → setting ≡ settingAt s t → eqb (setting .principal) 0 ≡ namesNone (ownIn s t .setting)
+unfolding namesNone
+read-none s t few setting read = ap namesNone (read ∙ sym (own-setting s t few))
 
-  pub read-none : setting .principal ≡ 0 → namesNone (ownIn s t .setting) ≡ true
-  unfolding namesNone
-  read-none zero-there = ap namesNone (sym own-read) ∙ eq-eqb (setting .principal) 0 zero-there
+-- what bars a call before the cells are asked for, and what has held where nothing does
+module _ (fits : Bool) (setting : Setting) where
+  pub bars-unfit : fits ≡ false → 103 ≡ barredBy fits setting
+  bars-unfit bad = sym (rw bad)
 
-  pub read-branch : (setting .principal ≡ 0 → ⊥) → namesNone (ownIn s t .setting) ≡ false
-  unfolding namesNone
-  read-branch named = ap namesNone (sym own-read) ∙ ne-eqb (setting .principal) 0 named
+  pub bars-branch : fits ≡ true → namesNone setting ≡ false → 111 ≡ barredBy fits setting
+  bars-branch fit named = sym (rw (fit, named))
+
+  pub bars-none : fits ≡ true → namesNone setting ≡ true → 0 ≡ barredBy fits setting
+  bars-none fit keeps = sym (rw (fit, keeps))
+
+module _ (fits : Bool) (setting : Setting) (n : ℕ) (is : n ≡ barredBy fits setting) where
+  pub barred-by : {P : Type 0} → (n ≡ 0 → ⊥) → (fits ≡ false → n ≡ 103 → P) → (fits ≡ true → namesNone setting ≡ false → n ≡ 111 → P) → P
+  barred-by bars unfit branch =
+      either fits
+      (λ fit. either (namesNone setting) (λ keeps. absurd (bars (is ∙ rw (fit, keeps)))) (λ named. branch fit named (is ∙ rw (fit, named))))
+      (λ bad. unfit bad (is ∙ rw bad))
+
+  pub not-barred : n ≡ 0 → (fits ≡ true) × (namesNone setting ≡ true)
+  not-barred free =
+      let one = passed (λ (m : ℕ). m ≡ 0) fits 103 (demand (namesNone setting) 111 0) (λ e. omega arith) (sym is ∙ free) in
+      (one .0, passed (λ (m : ℕ). m ≡ 0) (namesNone setting) 111 0 (λ e. omega arith) (one .1) .0)
 
 module _ (s : List ℕ) (t : ℕ) (cell : Held) where
   pub entry-damaged : isBook s ≡ false → entry s t cell ≡ refuses 101
@@ -58,7 +78,7 @@ module _ (s : List ℕ) (t : ℕ) (cell : Held) where
     entry-outside outside = rw (undamaged, outside)
 
     module _ (tenant : isTenant t ≡ true) where
-      pub entry-unfit : isHeld cell ≡ false → entry s t cell ≡ refuses 103
+      entry-unfit : isHeld cell ≡ false → entry s t cell ≡ refuses 103
       unfolding entry entering
       entry-unfit unfit = rw (undamaged, tenant, unfit)
 
@@ -81,6 +101,11 @@ module _ (s : List ℕ) (t : ℕ) (cell : Held) where
           unfolding entry entering
           entry-roomy room = rw (undamaged, tenant, fit, keeps, lt-ltb _ _ room, or-true (isSome (cellOf (cell .name) (ownIn s t .cells))))
 
+      pub entry-barred : (n : ℕ) → n ≡ barredBy (isHeld cell) (ownIn s t .setting) → (n ≡ 0 → ⊥) → entry s t cell ≡ refuses n
+      entry-barred n is bars =
+          barred-by (isHeld cell) (ownIn s t .setting) n is bars
+          (λ unfit e. entry-unfit unfit ∙ ap refuses (sym e)) (λ fit branch e. entry-branch fit branch ∙ ap refuses (sym e))
+
 module _ (s : List ℕ) (t name : ℕ) where
   pub withdrawal-damaged : isBook s ≡ false → withdrawal s t name ≡ refuses 101
   unfolding withdrawal
@@ -92,7 +117,7 @@ module _ (s : List ℕ) (t name : ℕ) where
     withdrawal-outside outside = rw (undamaged, outside)
 
     module _ (tenant : isTenant t ≡ true) where
-      pub withdrawal-unfit : isCellName name ≡ false → withdrawal s t name ≡ refuses 103
+      withdrawal-unfit : isCellName name ≡ false → withdrawal s t name ≡ refuses 103
       unfolding withdrawal withdrawing
       withdrawal-unfit unfit = rw (undamaged, tenant, unfit)
 
@@ -109,6 +134,11 @@ module _ (s : List ℕ) (t name : ℕ) where
           pub withdrawal-held : (it : Held) → cellOf name (ownIn s t .cells) ≡ some it → withdrawal s t name ≡ withdraws name
           unfolding withdrawal withdrawing
           withdrawal-held it held = rw (undamaged, tenant, fit, keeps, held)
+
+      pub withdrawal-barred : (n : ℕ) → n ≡ barredBy (isCellName name) (ownIn s t .setting) → (n ≡ 0 → ⊥) → withdrawal s t name ≡ refuses n
+      withdrawal-barred n is bars =
+          barred-by (isCellName name) (ownIn s t .setting) n is bars
+          (λ unfit e. withdrawal-unfit unfit ∙ ap refuses (sym e)) (λ fit branch e. withdrawal-branch fit branch ∙ ap refuses (sym e))
 
 module _ (s : List ℕ) (t days : ℕ) where
   pub days-damaged : isBook s ≡ false → newDays s t days ≡ refuses 101

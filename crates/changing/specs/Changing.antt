@@ -1,11 +1,17 @@
 -- The calls that change the book, on its bytes: a damaged book is 101, and else the rules decide, by what is the tenant's own.
+use mathlib.Core.Bool.{Bool}
 use mathlib.Core.List.{List}
 use Prim.Native.Nat.{ℕ}
 use Rattle.forms.specs.Order.{demand}
 use Rattle.tenants.specs.declared.Held.{Held}
-use Rattle.tenants.specs.Rules.{Change, enters, withdraws, sets, nothing, refuses, entering, withdrawing, settingDays}
+use Rattle.tenants.specs.declared.Setting.{Setting}
+use Rattle.tenants.specs.Rules.{Change, enters, withdraws, sets, nothing, refuses, namesNone, entering, withdrawing, settingDays}
 use Rattle.tenants.specs.Together.{changed}
 use Rattle.layout.specs.Layout.{bookBytes, bookOf, isBook, ownIn}
+
+-- what enter and withdraw are refused with before the cells are asked for: 103 where what was given does not fit, then 111 for a branch; 0 for neither
+abbrev pub barredBy : Bool → Setting → ℕ
+barredBy fits setting = demand fits 103 (demand (namesNone setting) 111 0)
 
 -- enter a cell: what it does, or the refusal
 unfoldable pub entry : List ℕ → ℕ → Held → Change

@@ -8,7 +8,7 @@ ghost use Rattle.tenants.specs.Rules.{isHeld, namesNone};
 ghost use Rattle.layout.specs.Layout.{isBook, ownIn};
 ghost use Rattle.records.specs.Finding.{searchedFor};
 ghost use Rattle.records.specs.declared.finding.Found.the-variants.{Absent};
-ghost use Rattle.changing.specs.Changing.{entry, withdrawal, bytesAfter};
+ghost use Rattle.changing.specs.Changing.{barredBy, entry, withdrawal, bytesAfter};
 ghost use Rattle.changing.specs.House.{houseAnswer};
 use judging::Judged;
 use records::finding::Found;
@@ -37,6 +37,21 @@ fn is_held(cell: Held) -> bool
         return false;
     }
     cell.key2 <= 0xFF_FFFF_FFFF
+}
+
+// What enter and withdraw are refused with before the cells are asked for: 103 where what was given does not fit, then 111 for a branch. 0 for neither.
+fn barred(book: &[u8], tenant: u32, fits: bool) -> u32
+    requires { ⌜ tenant ≤ 15 ⌝ }
+    ensures { λ r. ⌜ r ≡ barredBy fits (ownIn (now (book .entry)) tenant .setting) ⌝ }
+{
+    let branch = layout::setting_of(book, tenant).principal != 0;
+    if !fits {
+        return 103;
+    }
+    if branch {
+        return 111;
+    }
+    0
 }
 
 // Enters a cell with a new name, which would go to place i: the quota of its tenant, which holds so many cells, decides.
@@ -69,11 +84,9 @@ pub fn enter(book: &mut [u8], tenant: u32, cell: Held) -> Moved
     if 15 < tenant {
         return Moved::Refused(102);
     }
-    if !is_held(cell) {
-        return Moved::Refused(103);
-    }
-    if layout::setting_of(book, tenant).principal != 0 {
-        return Moved::Refused(111);
+    let bar = barred(book, tenant, is_held(cell));
+    if bar != 0 {
+        return Moved::Refused(bar);
     }
     match records::finding::find(book, first, past, cell.name) {
         Found::At(i) => {
@@ -95,11 +108,9 @@ pub fn withdraw(book: &mut [u8], tenant: u32, name: u64) -> Moved
     if 15 < tenant {
         return Moved::Refused(102);
     }
-    if !forms::identifiers::is_cell_name(name) {
-        return Moved::Refused(103);
-    }
-    if layout::setting_of(book, tenant).principal != 0 {
-        return Moved::Refused(111);
+    let bar = barred(book, tenant, forms::identifiers::is_cell_name(name));
+    if bar != 0 {
+        return Moved::Refused(bar);
     }
     let Found::At(i) = records::finding::find(book, first, past, name) else {
         return Moved::Refused(104);

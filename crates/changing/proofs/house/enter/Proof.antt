@@ -1,12 +1,11 @@
 -- `changing::house::enter` meets its contract: each refusal in its order, then a held name is replaced and a new one goes by the quota.
 -- Assumes nothing.
-use mathlib.Core.Path.{_≡_, sym, _∙_}
-use mathlib.Core.Bool.{true}
+use mathlib.Core.Path.{_≡_, sym, ap, _∙_}
+use mathlib.Core.Bool.{Bool, true}
 use mathlib.Core.List.{List}
 use Prim.Native.Nat.{ℕ, _+_, _≤_}
 use native.Mathlib.Omega.{arith}
 use borrow.Author.Needs.{needs}
-use borrow.Author.Tests.{not-true, not-false}
 use lib.ListN.{length}
 use Rattle.tenants.specs.declared.Held.{Held}
 use Rattle.tenants.specs.Rules.{isHeld, namesNone}
@@ -19,8 +18,9 @@ use Rattle.records.specs.declared.finding.Found.the-variants.{At}
 use Rattle.records.specs.Finding.{searchedFor}
 use Rattle.records.proofs.OwnPart.{counts-held}
 use Rattle.records.proofs.OwnFound.{searches-own}
+use Rattle.changing.specs.Changing.{barredBy}
 use Rattle.changing.specs.House.{houseAnswer}
-use Rattle.changing.proofs.ChangeRules.{refused, entry-damaged, entry-outside, entry-unfit, entry-branch, read-none, read-branch}
+use Rattle.changing.proofs.ChangeRules.{refused, entry-damaged, entry-outside, entry-barred, not-barred}
 use Rattle.changing.proofs.Done.{entered-held}
 use Rattle.changing.proofs.house.enter.Statement.{statement}
 use Rattle.changing.proofs.house.enter.Tie as tie
@@ -52,10 +52,18 @@ module _ (e : tie.Else1) where
   tenant : t ≤ 15
   tenant = e .if1 .left
 
--- and once the cell is found fit
+-- what bars the call
+module _ (b : tie.After-barred) where
+  abbrev outer : tie.Else1
+  outer = b .before .before .before
+
+  bar : b .barred .result ≡ barredBy (isHeld (start (outer .before) .args .cell)) (ownIn (s (outer .before)) (t outer) .setting)
+  bar = b .barred .ensures ∙ ap (λ (fits : Bool). barredBy fits (ownIn (s (outer .before)) (t outer) .setting)) (b .before .is-held .ensures)
+
+-- and once nothing does
 module _ (e : tie.Else2) where
   abbrev second : tie.Else1
-  second = e .before .before
+  second = outer (e .before)
 
   abbrev first : tie.After-known-told
   first = second .before
@@ -63,31 +71,26 @@ module _ (e : tie.Else2) where
   abbrev cell : Held
   cell = start first .args .cell
 
+  free : (isHeld cell ≡ true) × (namesNone (ownIn (s first) (t second) .setting) ≡ true)
+  free = not-barred (isHeld cell) (ownIn (s first) (t second) .setting) _ (bar (e .before)) (e .if2 .left)
+
   fit : isHeld cell ≡ true
-  fit = sym (e .before .is-held .ensures) ∙ not-false _ (e .if2 .left)
+  fit = free .0
 
--- and once it is found to be no branch
-module _ (e : tie.Else3) where
-  abbrev third : tie.Else2
-  third = e .before .before .before .before
-
-  keeps : namesNone (ownIn (s (first third)) (t (second third)) .setting) ≡ true
-  keeps = read-none (s (first third)) (t (second third)) (tenant (second third)) _ (e .before .before .setting-of .ensures) (e .if3 .left)
+  keeps : namesNone (ownIn (s first) (t second) .setting) ≡ true
+  keeps = free .1
 
 -- what the search finds is what it finds among the tenant's own
 told : (f : tie.After-find)
-    → let d = third (f .before .before) in f .find .result ≡ searchedFor (s (first d)) (t (second d)) (cell d .name)
+    → let d = f .before .before in f .find .result ≡ searchedFor (s (first d)) (t (second d)) (cell d .name)
 told f =
-    let d = third (f .before .before) in
+    let d = f .before .before in
     f .find .ensures ∙ searches-own (s (first d)) (t (second d)) (cell d .name) _ _ (judged-so (first d))
 
 -- the name is held at this place
 module _ (h : tie.After-i) where
-  abbrev kept : tie.Else3
-  kept = h .before .before .before .before
-
   abbrev fitted : tie.Else2
-  fitted = third kept
+  fitted = h .before .before .before .before
 
   at-place : searchedFor (s (first fitted)) (t (second fitted)) (cell fitted .name) ≡ At (h .i .given .0 .0)
   at-place = sym (told (h .before .before)) ∙ h .i .given .1
@@ -122,29 +125,18 @@ returns-2 c =
 is-held-requires : tie.Need-is-held-requires
 is-held-requires c κs = search needs
 
+barred-requires : tie.Need-barred-requires
+barred-requires c κs = tenant (c .before .before)
+
 same-length-3 : tie.Need-same-length-3
 same-length-3 c = search needs
 
 returns-3 : tie.Need-returns-3
 returns-3 c =
-    let e = c .before .before in
-    refused (houseAnswer (t e) (s (e .before))) _ _ _ 103
-    (entry-unfit (s (e .before)) (t e) (start (e .before) .args .cell) (undamaged (e .before)) (tenant-is _ (tenant e))
-    (sym (c .before .is-held .ensures) ∙ not-true _ (c .if2 .taken)))
-
-setting-of-requires : tie.Need-setting-of-requires
-setting-of-requires c κs = search needs
-
-same-length-4 : tie.Need-same-length-4
-same-length-4 c = search needs
-
-returns-4 : tie.Need-returns-4
-returns-4 c =
-    let read = c .before .before in
-    let d = read .before .before in
-    refused (houseAnswer (t (second d)) (s (first d))) _ _ _ 111
-    (entry-branch (s (first d)) (t (second d)) (cell d) (undamaged (first d)) (tenant-is _ (tenant (second d))) (fit d)
-    (read-branch (s (first d)) (t (second d)) (tenant (second d)) _ (read .setting-of .ensures) (c .if3 .taken)))
+    let b = c .before in
+    let e = outer b in
+    refused (houseAnswer (t e) (s (e .before))) _ _ _ _
+    (entry-barred (s (e .before)) (t e) (start (e .before) .args .cell) (undamaged (e .before)) (tenant-is _ (tenant e)) _ (bar b) (c .if2 .taken))
 
 find-requires : tie.Need-find-requires
 find-requires c κs = search needs
@@ -159,33 +151,32 @@ enum-known-i-2 : tie.Need-enum-known-i-2
 enum-known-i-2 c = search needs
 
 sub-enter-new : tie.Need-sub-enter-new
-sub-enter-new c = let d = third (c .before .before .before .before .before .before) in omega (arith, own-count (first d))
+sub-enter-new c = let d = (c .before .before .before .before .before .before) in omega (arith, own-count (first d))
 
 enter-new-requires : tie.Need-enter-new-requires
 enter-new-requires c κs =
     let i = c .before .before in
     let f = i .before .before in
-    let k = f .before .before in
-    let d = third k in
-    (undamaged (first d), ((tenant (second d), (fit d, keeps k)), (sym (told f) ∙ i .i2 .given .1, omega (arith, own-count (first d)))))
+    let d = f .before .before in
+    (undamaged (first d), ((tenant (second d), (fit d, keeps d)), (sym (told f) ∙ i .i2 .given .1, omega (arith, own-count (first d)))))
+
+same-length-4 : tie.Need-same-length-4
+same-length-4 c = search needs
+
+returns-4 : tie.Need-returns-4
+returns-4 c =
+    let put = c .before .before in
+    let i = put .before .before .before in
+    let d = fitted i in
+    let does =
+    entered-held (s (first d)) (undamaged (first d)) (t (second d)) (tenant (second d)) (cell d) (fit d) (keeps d) (i .i .given .0 .0) (at-place i) in
+    (does .0, put .put-record .ensures ∙ does .1)
 
 same-length-5 : tie.Need-same-length-5
 same-length-5 c = search needs
 
 returns-5 : tie.Need-returns-5
-returns-5 c =
-    let put = c .before .before in
-    let i = put .before .before .before in
-    let d = fitted i in
-    let does =
-    entered-held (s (first d)) (undamaged (first d)) (t (second d)) (tenant (second d)) (cell d) (fit d) (keeps (kept i)) (i .i .given .0 .0) (at-place i) in
-    (does .0, put .put-record .ensures ∙ does .1)
-
-same-length-6 : tie.Need-same-length-6
-same-length-6 c = search needs
-
-returns-6 : tie.Need-returns-6
-returns-6 c = c .before .before .enter-new .ensures
+returns-5 c = c .before .before .enter-new .ensures
 
 pub enter-spec : {M : Type 1} → statement M
 enter-spec =
@@ -199,18 +190,16 @@ enter-spec =
     same-length-2
     returns-2
     is-held-requires
+    barred-requires
     same-length-3
     returns-3
-    setting-of-requires
-    same-length-4
-    returns-4
     find-requires
     enum-known-i
     put-record-requires
     enum-known-i-2
     sub-enter-new
     enter-new-requires
+    same-length-4
+    returns-4
     same-length-5
-    returns-5
-    same-length-6
-    returns-6)
+    returns-5)

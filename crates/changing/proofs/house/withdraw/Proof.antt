@@ -1,12 +1,11 @@
 -- `changing::house::withdraw` meets its contract: each refusal in its order, then the record is taken out.
 -- Assumes nothing.
 use mathlib.Core.Path.{_≡_, sym, ap, _∙_}
-use mathlib.Core.Bool.{true}
+use mathlib.Core.Bool.{Bool, true}
 use mathlib.Core.List.{List}
 use Prim.Native.Nat.{ℕ, _-_, _≤_, _<_}
 use native.Mathlib.Omega.{arith}
 use borrow.Author.Needs.{needs}
-use borrow.Author.Tests.{not-true, not-false}
 use Rattle.forms.specs.Identifiers.{isCellName}
 use Rattle.tenants.proofs.Ranges.{tenant-is, tenant-not, name-below}
 use Rattle.tenants.specs.Rules.{namesNone}
@@ -19,8 +18,9 @@ use Rattle.records.specs.declared.finding.Found.the-variants.{At}
 use Rattle.records.specs.Finding.{searchedFor}
 use Rattle.records.proofs.OwnFound.{searches-own, found-within}
 use Rattle.changing.specs.declared.house.Moved.the-variants.{Done}
+use Rattle.changing.specs.Changing.{barredBy}
 use Rattle.changing.specs.House.{houseAnswer}
-use Rattle.changing.proofs.ChangeRules.{refused, withdrawal-damaged, withdrawal-outside, withdrawal-unfit, withdrawal-branch, read-none, read-branch}
+use Rattle.changing.proofs.ChangeRules.{refused, withdrawal-damaged, withdrawal-outside, withdrawal-barred, not-barred}
 use Rattle.changing.proofs.Done.{withdrawn-held, not-held}
 use Rattle.changing.proofs.house.withdraw.Statement.{statement}
 use Rattle.changing.proofs.house.withdraw.Tie as tie
@@ -46,10 +46,18 @@ module _ (e : tie.Else1) where
   tenant : t ≤ 15
   tenant = e .if1 .left
 
--- and once the name is found fit
+-- what bars the call
+module _ (b : tie.After-barred) where
+  abbrev outer : tie.Else1
+  outer = b .before .before .before
+
+  bar : b .barred .result ≡ barredBy (isCellName (start (outer .before) .args .name)) (ownIn (s (outer .before)) (t outer) .setting)
+  bar = b .barred .ensures ∙ ap (λ (fits : Bool). barredBy fits (ownIn (s (outer .before)) (t outer) .setting)) (b .before .is-cell-name .ensures)
+
+-- and once nothing does
 module _ (e : tie.Else2) where
   abbrev second : tie.Else1
-  second = e .before .before
+  second = outer (e .before)
 
   abbrev first : tie.After-known-told
   first = second .before
@@ -57,31 +65,26 @@ module _ (e : tie.Else2) where
   abbrev name : ℕ
   name = start first .args .name
 
+  free : (isCellName name ≡ true) × (namesNone (ownIn (s first) (t second) .setting) ≡ true)
+  free = not-barred (isCellName name) (ownIn (s first) (t second) .setting) _ (bar (e .before)) (e .if2 .left)
+
   fit : isCellName name ≡ true
-  fit = sym (e .before .is-cell-name .ensures) ∙ not-false _ (e .if2 .left)
+  fit = free .0
 
--- and once it is found to be no branch
-module _ (e : tie.Else3) where
-  abbrev third : tie.Else2
-  third = e .before .before .before .before
-
-  keeps : namesNone (ownIn (s (first third)) (t (second third)) .setting) ≡ true
-  keeps = read-none (s (first third)) (t (second third)) (tenant (second third)) _ (e .before .before .setting-of .ensures) (e .if3 .left)
+  keeps : namesNone (ownIn (s first) (t second) .setting) ≡ true
+  keeps = free .1
 
 -- what the search finds is what it finds among the tenant's own
 told : (f : tie.After-find)
-    → let d = third (f .before .before) in f .find .result ≡ searchedFor (s (first d)) (t (second d)) (name d)
+    → let d = f .before .before in f .find .result ≡ searchedFor (s (first d)) (t (second d)) (name d)
 told f =
-    let d = third (f .before .before) in
+    let d = f .before .before in
     f .find .ensures ∙ searches-own (s (first d)) (t (second d)) (name d) _ _ (judged-so (first d))
 
 -- it is held at this place
 module _ (h : tie.After-i) where
-  abbrev kept : tie.Else3
-  kept = h .before .before .before .before
-
   abbrev fitted : tie.Else2
-  fitted = third kept
+  fitted = h .before .before .before .before
 
   at-place : searchedFor (s (first fitted)) (t (second fitted)) (name fitted) ≡ At (h .i .given .0 .0)
   at-place = sym (told (h .before .before)) ∙ h .i .given .1
@@ -116,29 +119,18 @@ returns-2 c =
 is-cell-name-requires : tie.Need-is-cell-name-requires
 is-cell-name-requires c κs = search needs
 
+barred-requires : tie.Need-barred-requires
+barred-requires c κs = tenant (c .before .before)
+
 same-length-3 : tie.Need-same-length-3
 same-length-3 c = search needs
 
 returns-3 : tie.Need-returns-3
 returns-3 c =
-    let e = c .before .before in
-    refused (houseAnswer (t e) (s (e .before))) _ _ _ 103
-    (withdrawal-unfit (s (e .before)) (t e) (start (e .before) .args .name) (undamaged (e .before)) (tenant-is _ (tenant e))
-    (sym (c .before .is-cell-name .ensures) ∙ not-true _ (c .if2 .taken)))
-
-setting-of-requires : tie.Need-setting-of-requires
-setting-of-requires c κs = search needs
-
-same-length-4 : tie.Need-same-length-4
-same-length-4 c = search needs
-
-returns-4 : tie.Need-returns-4
-returns-4 c =
-    let read = c .before .before in
-    let d = read .before .before in
-    refused (houseAnswer (t (second d)) (s (first d))) _ _ _ 111
-    (withdrawal-branch (s (first d)) (t (second d)) (name d) (undamaged (first d)) (tenant-is _ (tenant (second d))) (fit d)
-    (read-branch (s (first d)) (t (second d)) (tenant (second d)) _ (read .setting-of .ensures) (c .if3 .taken)))
+    let b = c .before in
+    let e = outer b in
+    refused (houseAnswer (t e) (s (e .before))) _ _ _ _
+    (withdrawal-barred (s (e .before)) (t e) (start (e .before) .args .name) (undamaged (e .before)) (tenant-is _ (tenant e)) _ (bar b) (c .if2 .taken))
 
 find-requires : tie.Need-find-requires
 find-requires c κs = search needs
@@ -149,15 +141,14 @@ enum-known-i c = search needs
 enum-told-2 : tie.Need-enum-told-2
 enum-told-2 c = search needs
 
-same-length-5 : tie.Need-same-length-5
-same-length-5 c = search needs
+same-length-4 : tie.Need-same-length-4
+same-length-4 c = search needs
 
-returns-5 : tie.Need-returns-5
-returns-5 c =
+returns-4 : tie.Need-returns-4
+returns-4 c =
     let f = c .before .before in
-    let k = f .before .before in
-    let d = third k in
-    not-held (s (first d)) (undamaged (first d)) (t (second d)) (tenant (second d)) (name d) (fit d) (keeps k) (c .enum-told2 .given .0 .0)
+    let d = f .before .before in
+    not-held (s (first d)) (undamaged (first d)) (t (second d)) (tenant (second d)) (name d) (fit d) (keeps d) (c .enum-told2 .given .0 .0)
     (sym (told f) ∙ c .enum-told2 .given .1)
 
 count-requires : tie.Need-count-requires
@@ -194,15 +185,15 @@ sub-after-2 c = omega (arith, counted c, within c .0)
 remove-record-requires : tie.Need-remove-record-requires
 remove-record-requires c κs = search needs
 
-same-length-6 : tie.Need-same-length-6
-same-length-6 c = search needs
+same-length-5 : tie.Need-same-length-5
+same-length-5 c = search needs
 
-returns-6 : tie.Need-returns-6
-returns-6 c =
+returns-5 : tie.Need-returns-5
+returns-5 c =
     let removed = c .before .before in
     let n = removed .before .before in
     let e = d n in
-    let does = withdrawn-held (s (first e)) (undamaged (first e)) (t (second e)) (tenant (second e)) (name e) (fit e) (keeps (kept (held n))) (i n) (at-place (held n)) in
+    let does = withdrawn-held (s (first e)) (undamaged (first e)) (t (second e)) (tenant (second e)) (name e) (fit e) (keeps e) (i n) (at-place (held n)) in
     (ap (λ (m : ℕ). Done (m - 1 - i n)) (counted n) ∙ does .0, removed .remove-record .ensures ∙ does .1)
 
 pub withdraw-spec : {M : Type 1} → statement M
@@ -217,20 +208,18 @@ withdraw-spec =
     same-length-2
     returns-2
     is-cell-name-requires
+    barred-requires
     same-length-3
     returns-3
-    setting-of-requires
-    same-length-4
-    returns-4
     find-requires
     enum-known-i
     enum-told-2
-    same-length-5
-    returns-5
+    same-length-4
+    returns-4
     count-requires
     cast-had
     sub-after
     sub-after-2
     remove-record-requires
-    same-length-6
-    returns-6)
+    same-length-5
+    returns-5)
