@@ -28,7 +28,7 @@ module _ (t : ℕ) (book : Book) where
   -- a tenant that is no branch reads what it keeps
   pub own-kept : namesNone (settingOf t book) ≡ true → ownOf t book ≡ keptOf t book
   unfolding ownOf
-  own-kept none = ap (λ (u : ℕ). record { setting = settingOf t book; cells = cellsOf u (book .records) }) (own-list none)
+  own-kept none = rw (own-list none)
 
 -- cells decide only where no principal is named: a branch is refused before they are asked for
 module _ (t : ℕ) (own other : Own) (setting : own .setting ≡ other .setting) (cells : namesNone (own .setting) ≡ true → own .cells ≡ other .cells) where
