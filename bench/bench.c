@@ -8,7 +8,7 @@
      permits       the calls of lambukir.h beside the model's of tests/, see permits.h: to refuse a line is to read one whose last byte is wrong
      book          the calls of lambukir.h beside book.h's, written by hand in C, see desk.h: enter and then withdraw, two calls, in a book with
                    511 records, for a tenant and for the house; the others in a full one; judging is asking for a cell that is not there; a
-                   producer is asked for of a tenant with 32 cells, and of one with all 512
+                   producer is asked for of a tenant with 32 cells, and of one with all 512, whose branches ask an edition
      list          a ship's cell against a product list of 20,000 rows, beside products.h's, which sorts the names; against one that was made to be
                    slow, beside ours in name order; and against one of 10 rows, see service.h
      look-through  the program beside bench/look_through.c, each a process of its own: from before its start until it has ended;
@@ -128,6 +128,7 @@ int main(void)
     measure("enter, withdraw", our_enter, their_enter, "plain C", 40);
     measure("  for the house", our_house, their_house, "plain C", 40);
     measure("ask edition", our_edition, their_edition, "plain C", 80);
+    measure("  by a branch", our_branch, their_branch, "plain C", 80);
     measure("ask producer", our_producer, their_producer, "plain C", 80);
     measure("  of 512 cells", our_long_walk, their_long_walk, "plain C", 80);
     measure("judge a book", our_judged, their_judged, "plain C", 80);

@@ -46,6 +46,18 @@ static void write_first(uint8_t *p, size_t bytes, uint64_t v)
     memcpy(p, &v, bytes);
 }
 
+static uint8_t principal_of(const uint8_t *book, size_t tenant)
+{
+    return book[SETTINGS + tenant * SETTING + 5];
+}
+
+/* The tenant whose records a tenant reads. */
+static uint32_t list_of(const uint8_t *book, uint32_t tenant)
+{
+    uint32_t principal = principal_of(book, tenant);
+    return principal == 0 ? tenant : principal - 1;
+}
+
 static bool are_settings(const uint8_t *book)
 {
     static const uint8_t is[256] = {['0' ... '9'] = 1, ['A' ... 'Z'] = 1};
@@ -53,7 +65,9 @@ static bool are_settings(const uint8_t *book)
     for (size_t t = 0; t < TENANTS; t++) {
         const uint8_t *s = book + SETTINGS + t * SETTING;
         sum += read16(s);
-        if (s[2] - 1u >= 90 || !(is[s[3]] & is[s[4]]) || s[5] != 0)
+        if (s[2] - 1u >= 90 || !(is[s[3]] & is[s[4]]))
+            return false;
+        if (s[5] != 0 && (s[5] > TENANTS || read16(s) != 0 || principal_of(book, s[5] - 1u) != 0))
             return false;
     }
     return sum <= MOST_RECORDS;
@@ -132,22 +146,26 @@ static bool is_held(const parts *found, const uint8_t *place, uint32_t tenant, u
     return place < found->starts[tenant + 1] && read64(place + 1) == name;
 }
 
-uint32_t plain_open_book(uint8_t *book, size_t book_length, const uint16_t *quotas, size_t quotas_length, const uint8_t *ids, size_t ids_length)
+uint32_t plain_open_book(uint8_t *book, size_t book_length, const uint16_t *quotas, size_t quotas_length, const uint8_t *ids, size_t ids_length,
+                         const uint8_t *principals, size_t principals_length)
 {
     uint32_t sum = 0;
     if (book_length != LAMBUKIR_BOOK_SIZE)
         return 101;
-    if (quotas_length != TENANTS || ids_length != 2 * TENANTS || !is_name(ids, 2 * TENANTS))
+    if (quotas_length != TENANTS || ids_length != 2 * TENANTS || !is_name(ids, 2 * TENANTS) || principals_length != TENANTS)
         return 103;
-    for (size_t t = 0; t < TENANTS; t++)
+    for (size_t t = 0; t < TENANTS; t++) {
         sum += quotas[t];
+        if (principals[t] != 0 && (principals[t] > TENANTS || quotas[t] != 0 || principals[principals[t] - 1] != 0))
+            return 103;
+    }
     if (sum > MOST_RECORDS)
         return 103;
     memset(book, 0, LAMBUKIR_BOOK_SIZE);
     book[0] = 1;
     write32(book + 1, RECORDS);
     for (size_t t = 0; t < TENANTS; t++) {
-        uint8_t setting[SETTING] = {(uint8_t)(quotas[t] >> 8), (uint8_t)quotas[t], 30, ids[2 * t], ids[2 * t + 1], 0};
+        uint8_t setting[SETTING] = {(uint8_t)(quotas[t] >> 8), (uint8_t)quotas[t], 30, ids[2 * t], ids[2 * t + 1], principals[t]};
         memcpy(book + SETTINGS + t * SETTING, setting, SETTING);
     }
     return 0;
@@ -174,6 +192,8 @@ lambukir_moved plain_house_enter(uint8_t *book, size_t book_length, uint32_t ten
         return (lambukir_moved){.number = 102};
     if (!is_cell_name(name) || edition - 1 >= 999 || (key_one | key_two) >> 40 != 0)
         return (lambukir_moved){.number = 103};
+    if (principal_of(book, tenant) != 0)
+        return (lambukir_moved){.number = 111};
     uint8_t *r = book + (place_of(&found, tenant, name) - book);
     if (!is_held(&found, r, tenant, name)) {
         answer.moved = (uint32_t)(found.starts[TENANTS] - r) / RECORD_SIZE;
@@ -202,6 +222,8 @@ lambukir_moved plain_house_withdraw(uint8_t *book, size_t book_length, uint32_t 
         return (lambukir_moved){.number = 102};
     if (!is_cell_name(name))
         return (lambukir_moved){.number = 103};
+    if (principal_of(book, tenant) != 0)
+        return (lambukir_moved){.number = 111};
     uint8_t *r = book + (place_of(&found, tenant, name) - book);
     if (!is_held(&found, r, tenant, name))
         return (lambukir_moved){.number = 104};
@@ -239,13 +261,14 @@ lambukir_edition plain_ask_edition(const uint8_t *book, size_t book_length, uint
         return (lambukir_edition){.number = 102};
     if (!is_cell_name(name))
         return (lambukir_edition){.number = 103};
-    const uint8_t *r = place_of(&found, tenant, name);
-    if (!is_held(&found, r, tenant, name))
+    uint32_t list = list_of(book, tenant);
+    const uint8_t *r = place_of(&found, list, name);
+    if (!is_held(&found, r, list, name))
         return (lambukir_edition){.number = 104};
     return (lambukir_edition){.edition = read16(r + 9)};
 }
 
-/* Walks through the tenant's records, which are in order, as far as its names can begin so. */
+/* Walks through the records that the tenant reads, which are in order, as far as their names can begin so. */
 lambukir_held plain_ask_producer(const uint8_t *book, size_t book_length, uint32_t tenant, uint32_t producer)
 {
     parts found;
@@ -255,10 +278,11 @@ lambukir_held plain_ask_producer(const uint8_t *book, size_t book_length, uint32
         return (lambukir_held){.number = 102};
     if (producer > 0xffff || !is_cell_name(0x303030303030 | (uint64_t)producer << 48))
         return (lambukir_held){.number = 103};
-    const uint8_t *r = found.starts[tenant];
-    while (r < found.starts[tenant + 1] && read16(r + 1) < producer)
+    uint32_t list = list_of(book, tenant);
+    const uint8_t *r = found.starts[list];
+    while (r < found.starts[list + 1] && read16(r + 1) < producer)
         r += RECORD_SIZE;
-    return (lambukir_held){.held = r < found.starts[tenant + 1] && read16(r + 1) == producer};
+    return (lambukir_held){.held = r < found.starts[list + 1] && read16(r + 1) == producer};
 }
 
 /* The refusals that come before the user permit is looked at: 101, 109, 102, 108, 103; or 0. */
@@ -286,8 +310,9 @@ lambukir_written plain_issue(const uint8_t *book, size_t book_length, const uint
     lambukir_user_permit ship = read_by_register(reg, reg_length, permit, permit_length);
     if (ship.number != 0)
         return (lambukir_written){.number = ship.number};
-    const uint8_t *r = place_of(&found, tenant, name), *setting = book + SETTINGS + tenant * SETTING;
-    if (!is_held(&found, r, tenant, name))
+    uint32_t list = list_of(book, tenant);
+    const uint8_t *r = place_of(&found, list, name), *setting = book + SETTINGS + tenant * SETTING;
+    if (!is_held(&found, r, list, name))
         return (lambukir_written){.number = 104};
     return model_write_line(ship.hw_id, name, expiry, number_of(r + 11, 5), number_of(r + 16, 5), level, read16(r + 9), read16(setting + 3), out, out_length);
 }

@@ -1,5 +1,5 @@
-/* The calls on a book, ours and by hand: a full book for those that read, one that is full of one tenant's cells, and one with room for one record
-   for entering and withdrawing. */
+/* The calls on a book, ours and by hand: a full book for those that read, one that is full of one tenant's cells, which fifteen branches read, and one
+   with room for one record for entering and withdrawing. */
 #ifndef DESK_H
 #define DESK_H
 
@@ -17,10 +17,11 @@ static bool make_books(void)
 {
     static const uint8_t servers[] = "NODEA2A3A4A5A6A7A8A9B0B1B2B3B4B5";
     uint16_t quotas[TENANTS];
+    uint8_t principals[TENANTS] = {0};
     for (size_t t = 0; t < TENANTS; t++)
         quotas[t] = QUOTA;
-    sum += lambukir_open_book(full_book, sizeof full_book, quotas, TENANTS, servers, 32);
-    sum += plain_open_book(their_book, sizeof their_book, quotas, TENANTS, servers, 32);
+    sum += lambukir_open_book(full_book, sizeof full_book, quotas, TENANTS, servers, 32, principals, TENANTS);
+    sum += plain_open_book(their_book, sizeof their_book, quotas, TENANTS, servers, 32, principals, TENANTS);
     for (uint32_t i = 0; i < MOST_RECORDS; i++) {
         uint64_t name = held[i % TENANTS][i / TENANTS] = some_name(), one = some_key(), two = some_key();
         uint32_t edition = 1 + (uint32_t)random_below(999);
@@ -29,7 +30,8 @@ static bool make_books(void)
     }
     quotas[0] = MOST_RECORDS;
     memset(quotas + 1, 0, sizeof quotas - sizeof *quotas);
-    sum += lambukir_open_book(one_tenants, sizeof one_tenants, quotas, TENANTS, servers, 32);
+    memset(principals + 1, 1, sizeof principals - 1);
+    sum += lambukir_open_book(one_tenants, sizeof one_tenants, quotas, TENANTS, servers, 32, principals, TENANTS);
     for (uint32_t i = 0; i < MOST_RECORDS; i++)
         sum += lambukir_enter(one_tenants, sizeof one_tenants, 0, held[i % TENANTS][i / TENANTS], 1, 2, 3);
     for (size_t i = 0; i < SAMPLES; i++)
@@ -48,6 +50,7 @@ BOTH(plain, edition, ask_edition(FULL, NTH_TENANT, NTH_CELL).edition)
 BOTH(plain, judged, ask_edition(FULL, NTH_TENANT, absent[NTH]).number)
 BOTH(plain, producer, ask_producer(FULL, NTH_TENANT, (uint32_t)(NTH_CELL >> 48)).held)
 BOTH(plain, long_walk, ask_producer(one_tenants, sizeof one_tenants, 0, (uint32_t)(absent[NTH] >> 48)).held)
+BOTH(plain, branch, ask_edition(one_tenants, sizeof one_tenants, 1 + (uint32_t)i % (TENANTS - 1), NTH_CELL).edition)
 BOTH(plain, issue, issue(FULL, reg, reg_length, NTH_TENANT, NTH_CELL, 20240301, 0, permits[NTH], 28, written, sizeof written).length)
 BOTH(plain, check, check(FULL, NTH_TENANT, hw_id, 20240131, lines[NTH], line_lengths[NTH]).key_one)
 

@@ -127,9 +127,9 @@
 /* The version of this header: as text, and as a number, 10000 for the first of
    its three, 100 for the second and 1 for the third. While the first is 0, a
    new second number may change the interface, and the shared library's name
-   changes with it (liblambukir.so.0.10). */
-#define LAMBUKIR_VERSION "0.10.0"
-#define LAMBUKIR_VERSION_NUMBER 1000
+   changes with it (liblambukir.so.0.11). */
+#define LAMBUKIR_VERSION "0.11.0"
+#define LAMBUKIR_VERSION_NUMBER 1100
 
 /* The numbers that come back
 
@@ -159,6 +159,7 @@
 #define LAMBUKIR_OUT_TOO_SHORT 108    /* the output is too short */
 #define LAMBUKIR_REGISTER_DAMAGED 109 /* the register is damaged */
 #define LAMBUKIR_CELL_TWICE 110       /* a cell has two rows in the product list */
+#define LAMBUKIR_BRANCH 111           /* a branch cannot enter or withdraw */
 
 /* Of a record 0 says that its permit is current; 15 and 20 are for subscriptions
    alone. 12 is also for a date in a line, row or header that is none; 18 for a
@@ -537,10 +538,28 @@ lambukir_product_standing(const uint8_t *list, size_t list_length,
      a Data Server ID  which stands in the lines that it issues
 
    A tenant reaches its own cells alone: whatever it is answered depends on
-   these four, on the register and on what it hands in, and on nothing that
-   another tenant has or does. Calls of different tenants may be mixed in any
-   order: as long as each one's own calls keep theirs, the book at the end is
-   the same to the last byte, and so is every answer.
+   these four, on whether it is a branch, on the register and on what it hands
+   in, and on nothing else that another tenant has or does. Calls of different
+   tenants may be mixed in any order: as long as each one's own calls keep
+   theirs, the book at the end is the same to the last byte, and so is every
+   answer, but for those of branches.
+
+   Branches
+
+   A tenant may be opened as a branch of another, its principal: an agent whose
+   branch sells from the same list. A branch's own cells are its principal's.
+   It asks for editions and producers, and issues, from that list, at once with
+   what the principal enters and withdraws; with its own Data Server ID and
+   warning days, which it sets as any tenant does. It cannot enter or withdraw
+   (111), and its quota is 0. A principal has no principal itself. It may have
+   any number of branches, and a quota of 0, so that it has nothing to sell.
+
+   A branch's call changes nobody's cells: whatever its branches do, a principal
+   is answered what its own calls alone give. A branch's answers go by its own
+   calls and by those with which its principal enters and withdraws. Where these
+   keep their order among themselves, the branch is answered the same however
+   all else is mixed; where they do not, that branch alone may be answered
+   differently, and the book at the end is still the same to the last byte.
 
    Every call but lambukir_open_book judges the whole book first, which takes a
    microsecond or two where it is full. One of another length, or with a byte
@@ -575,26 +594,31 @@ lambukir_product_standing(const uint8_t *list, size_t list_length,
      and brings a call that carries it over. */
 
 /* ERASES the book, and makes an empty one: no cells, warning days 30, and for
-   tenant t the quota quotas[t] and the Data Server ID that stands at
-   ids + 2 * t. What was in the book before is neither looked at nor kept.
+   tenant t the quota quotas[t], the Data Server ID that stands at ids + 2 * t,
+   and the principal principals[t]. What was in the book before is neither
+   looked at nor kept.
 
-   quotas is sixteen numbers (quotas_length is LAMBUKIR_TENANTS, not 32), and
-   ids LAMBUKIR_IDS_SIZE bytes. Two tenants may have the same Data Server ID.
+   quotas is sixteen numbers (quotas_length is LAMBUKIR_TENANTS, not 32), ids
+   LAMBUKIR_IDS_SIZE bytes, and principals LAMBUKIR_TENANTS bytes: 0 for a
+   tenant that is no branch, otherwise its principal's number plus one. Two
+   tenants may have the same Data Server ID.
 
    Refusals, in this order: 101, book is not LAMBUKIR_BOOK_SIZE bytes; 103, not
-   sixteen quotas, they sum to more than 512, not 32 bytes of ids, or a
-   character of them is not A-Z 0-9. */
+   sixteen quotas, they sum to more than 512, not 32 bytes of ids, a character
+   of them is not A-Z 0-9, not sixteen principals, or a branch whose quota is
+   not 0 or whose principal is above 15, is itself, or is a branch. */
 uint32_t
 lambukir_open_book(uint8_t *book, size_t book_length,
                    const uint16_t *quotas, size_t quotas_length,
-                   const uint8_t *ids, size_t ids_length);
+                   const uint8_t *ids, size_t ids_length,
+                   const uint8_t *principals, size_t principals_length);
 
 /* Enters a cell, and answers 0. Where the tenant holds one of that name, its
    edition and keys are replaced, and the quota does not matter.
 
    Refusals, in this order: 101; 102; 103, name, edition or a key is not of its
-   form or range; 105, the name is new, and the tenant holds as many cells as
-   its quota allows. */
+   form or range; 111, the tenant is a branch; 105, the name is new, and the
+   tenant holds as many cells as its quota allows. */
 uint32_t
 lambukir_enter(uint8_t *book, size_t book_length, uint32_t tenant,
                uint64_t name, uint32_t edition,
@@ -603,7 +627,8 @@ lambukir_enter(uint8_t *book, size_t book_length, uint32_t tenant,
 /* Takes a cell out of the book, and answers 0. Its room is free at once, for
    the same tenant, and its keys are no longer in the book.
 
-   Refusals, in this order: 101; 102; 103, name is not of its form; 104. */
+   Refusals, in this order: 101; 102; 103, name is not of its form; 111, the
+   tenant is a branch; 104. */
 uint32_t
 lambukir_withdraw(uint8_t *book, size_t book_length, uint32_t tenant,
                   uint64_t name);
@@ -620,7 +645,8 @@ typedef struct {
   uint32_t number;
 } lambukir_edition;
 
-/* The edition of a cell that the tenant holds, and number 0.
+/* The edition of a cell that the tenant holds, or for a branch its principal,
+   and number 0.
 
    Refusals, in this order: 101; 102; 103, name is not of its form; 104. */
 lambukir_edition
@@ -632,9 +658,10 @@ typedef struct {
   uint32_t number;
 } lambukir_held;
 
-/* Whether the tenant holds any cell of a producer, that is, any whose name
-   begins with these two characters ("NO" is 0x4E4F): held is 1 or 0, and number
-   is 0. After a refusal held is 0 too, so look at number first.
+/* Whether the tenant holds any cell of a producer, or for a branch its
+   principal: any whose name begins with these two characters ("NO" is 0x4E4F).
+   held is 1 or 0, and number is 0. After a refusal held is 0 too, so look at
+   number first.
 
    Refusals, in this order: 101; 102; 103, producer is not of its form. */
 lambukir_held
@@ -643,9 +670,9 @@ lambukir_ask_producer(const uint8_t *book, size_t book_length, uint32_t tenant,
 
 /* Issues a line for the ship that a user permit names, to the start of out: the
    line that lambukir_write_line writes for the ship's HW_ID, with keys and
-   edition of the tenant's cell and with the tenant's Data Server ID. It ends
-   with CR LF, which length counts: lambukir_check takes it without. Two key
-   set-ups.
+   edition of the tenant's cell, for a branch its principal's, and with the
+   tenant's own Data Server ID. It ends with CR LF, which length counts:
+   lambukir_check takes it without. Two key set-ups.
 
    Refusals, in this order: 101; 109; 102; 108, out has less than 76 bytes; 103,
    name, expiry or level is not of its form or range; 106; 17; 107; 18, all four

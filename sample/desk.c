@@ -1,4 +1,5 @@
-/* The permit desk at work: a book for sixteen agents, two of them entering cells, a permit issued to a ship and read back. */
+/* The permit desk at work: a book for sixteen agents, two of them entering cells and a branch of one selling from its list, permits issued to a ship and
+   read back. */
 #include <ctype.h>
 #include <inttypes.h>
 #include <stdio.h>
@@ -6,15 +7,16 @@
 
 #include "lambukir.h"
 
-#define OSLO 0 /* two of the sixteen agents, by their numbers in the book */
+#define OSLO 0 /* three of the sixteen agents, by their numbers in the book */
 #define HAMBURG 1
+#define BERGEN 2 /* a branch of Oslo: it sells what Oslo has entered */
 #define TODAY 20240131
 #define EXPIRY 20240331
 #define AFTERWARDS 20240401
 
 static uint8_t book[LAMBUKIR_BOOK_SIZE]; /* keep.c keeps one in a file */
 static const uint8_t reg[] = "0198765";  /* who makes bridge equipment: manufacturer 01 has the key 98765 */
-static const char *const agents[] = {"Oslo", "Hamburg"};
+static const char *const agents[] = {"Oslo", "Hamburg", "Bergen"};
 
 /* A text that is no cell name gives a number that every call refuses. */
 static uint64_t name_of(const char *cell)
@@ -28,15 +30,16 @@ static void tell(uint32_t number)
     printf("%" PRIu32 ", %s\n", number, lambukir_meaning(number).text);
 }
 
-/* An empty book: Oslo may hold 100 cells, Hamburg two, and the others 25 each. */
+/* An empty book: Oslo may hold 100 cells, Hamburg two, Bergen none, as a branch, and the others 25 each. */
 static void open_book(void)
 {
-    uint16_t quotas[LAMBUKIR_TENANTS] = {100, 2};
-    for (int i = 2; i < LAMBUKIR_TENANTS; i++)
+    const uint8_t principals[LAMBUKIR_TENANTS] = {[BERGEN] = OSLO + 1};
+    uint16_t quotas[LAMBUKIR_TENANTS] = {100, 2, 0};
+    for (int i = 3; i < LAMBUKIR_TENANTS; i++)
         quotas[i] = 25;
     const char *ids = "NODEA2A3A4A5A6A7A8A9B0B1B2B3B4B5";
     printf("A book is opened for sixteen agents: ");
-    tell(lambukir_open_book(book, sizeof book, quotas, LAMBUKIR_TENANTS, (const uint8_t *)ids, strlen(ids)));
+    tell(lambukir_open_book(book, sizeof book, quotas, LAMBUKIR_TENANTS, (const uint8_t *)ids, strlen(ids), principals, LAMBUKIR_TENANTS));
 }
 
 static void enter(uint32_t agent, const char *cell, uint32_t edition, uint64_t key_one, uint64_t key_two)
@@ -130,9 +133,16 @@ int main(void)
     check(OSLO, hw_id, AFTERWARDS, line, length);
     check(OSLO, lambukir_hw_id_from_text("12345", 5), TODAY, line, length); /* another ship's */
 
+    length = issue(BERGEN, "NO4D0613", permit, line); /* from Oslo's list, with its own Data Server ID in the end */
+    if (length == 0)
+        return 1;
+    check(BERGEN, hw_id, TODAY, line, length);
+    enter(BERGEN, "NO4D0614", 1, 0x2122232425, 0x262728292A);
+
     printf("Oslo withdraws NO4D0613: ");
     tell(lambukir_withdraw(book, sizeof book, OSLO, name_of("NO4D0613")));
     ask(OSLO, "NO4D0613");
+    ask(BERGEN, "NO4D0613"); /* which can no longer sell it either */
     ask(HAMBURG, "NO4D0613"); /* which Oslo cannot touch */
     ask_producer(OSLO, "NO");
     ask_producer(HAMBURG, "NO");

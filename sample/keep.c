@@ -108,6 +108,7 @@ static void load(void)
 static uint32_t make_book(void)
 {
     static const uint8_t ids[] = "NODEA2A3A4A5A6A7A8A9B0B1B2B3B4B5";
+    static const uint8_t principals[LAMBUKIR_TENANTS] = {0}; /* nobody is a branch */
     uint16_t quotas[LAMBUKIR_TENANTS];
     if (open_to_read() >= 0)
         fail(path, "it is there already", NO_CHANGE);
@@ -115,7 +116,7 @@ static uint32_t make_book(void)
         fail(path, strerror(errno), NO_CHANGE);
     for (int i = 0; i < LAMBUKIR_TENANTS; i++)
         quotas[i] = 32;
-    return lambukir_open_book(book, LAMBUKIR_BOOK_SIZE, quotas, LAMBUKIR_TENANTS, ids, sizeof ids - 1);
+    return lambukir_open_book(book, LAMBUKIR_BOOK_SIZE, quotas, LAMBUKIR_TENANTS, ids, sizeof ids - 1, principals, sizeof principals);
 }
 
 /* Writes the whole file; the answer is 0, or -1. */

@@ -22,7 +22,8 @@ static void worked(void)
     const uint64_t name = number_from("NO4D0613");
     ABOUT("the book written down by hand");
     memset(book, 0xEE, sizeof book);
-    expect(lambukir_open_book(book, BOOK, given, TENANTS, (const uint8_t *)"GBNO00010203040506070809AAAAZ99Z", 32), 0);
+    no_principals();
+    expect(lambukir_open_book(book, BOOK, given, TENANTS, (const uint8_t *)"GBNO00010203040506070809AAAAZ99Z", 32, principals, TENANTS), 0);
     expect(lambukir_enter(book, BOOK, 1, name, 999, 0xC1CB518E9C, 0x421571CC66), 0);
     expect(lambukir_set_days(book, BOOK, 1, 31), 0);
     same((uint64_t)memcmp(book, expected, sizeof expected), 0, "%s: its used bytes", about);
@@ -38,7 +39,7 @@ static void worked(void)
     same(lambukir_ask_producer(book, BOOK, 0, 0x4E4F).held, 0, "%s: nor one of NO by another tenant", about);
 }
 
-/* The book of a sequence: an opened one with small quotas; crowded, the last eight tenants fill up all that these leave. */
+/* The book of a sequence: an opened one with small quotas, and branches where they are 0; crowded, the last eight tenants fill up all that these leave. */
 static void start_sequence(int crowded)
 {
     uint32_t left = MOST;
@@ -47,9 +48,10 @@ static void start_sequence(int crowded)
         left -= quotas[t];
     }
     some_ids();
+    some_principals();
     random_bytes(book, BOOK);
     ABOUT("opening the book of a sequence");
-    expect(compare_open_book(book, BOOK, quotas, TENANTS, ids, sizeof ids, &lists), 0);
+    expect(compare_open_book(book, BOOK, quotas, TENANTS, ids, sizeof ids, principals, sizeof principals, &lists), 0);
     for (uint32_t t = TENANTS / 2; crowded && t < TENANTS; t++)
         fill(t, quotas[t] - random_below(2));
     model_bytes_of_book(&lists, book);
@@ -86,7 +88,7 @@ static int is_line_length(uint64_t length)
     return length >= 74 && length <= WRITTEN;
 }
 
-/* 60 calls of a few tenants on a few names, each compared. */
+/* 60 calls of a few tenants on a few names, each compared. Where one of the tenants is a branch, its principal is another. */
 static void sequence(int which)
 {
     uint32_t tenants[4];
@@ -94,6 +96,8 @@ static void sequence(int which)
     ship_line issued = {0};
     for (size_t i = 0; i < COUNT(tenants); i++)
         tenants[i] = (uint32_t)random_below(TENANTS);
+    if (is_branch(tenants[0]))
+        tenants[1] = reads(tenants[0]);
     for (size_t i = 1; i < COUNT(names); i++)
         names[i] = near_name(names[random_below(i)]);
     for (int n = 0; n < 60; n++) {
@@ -139,7 +143,7 @@ static void make_own_calls(size_t m, uint32_t tenant)
     uint64_t names[6];
     uint32_t tenants[4] = {tenant, tenant, tenant, tenant};
     for (size_t i = 0; i < COUNT(names); i++)
-        names[i] = lists.tenants[tenant].held > 0 && i % 2 ? held_name(tenant) : absent_name(tenant);
+        names[i] = cells_of(tenant) > 0 && i % 2 ? held_name(tenant) : absent_name(tenant);
     mixed[m].tenant = tenant;
     mixed[m].count = 1 + random_below(OWN_CALLS);
     for (size_t i = 0; i < mixed[m].count; i++) {
@@ -185,12 +189,15 @@ static void run_mixed(int which, int mixing)
     same_book(copy, &lists);
 }
 
-/* However the calls are mixed, the book is the same in the end, and each tenant is answered what its own calls alone are answered. */
+/* However the calls are mixed, the book is the same in the end, and each tenant is answered what its own calls alone are answered. (tests/branches.c has
+   the mixings with branches.) */
 static void mixings(void)
 {
+    no_principals();
     for (int i = 0; i < 200; i++) {
         uint32_t first = (uint32_t)random_below(TENANTS);
-        some_book(i % 3 == 0 ? 0 : i % 3 == 1 ? MOST : 40, i % 3 == 2 ? 64 : MOST);
+        some_quotas(i % 3 == 2 ? 64 : MOST);
+        fill_book(i % 3 == 0 ? 0 : i % 3 == 1 ? MOST : 40);
         for (size_t m = 0; m < MIXED; m++)
             make_own_calls(m, (first + 3 * (uint32_t)m) % TENANTS);
         for (size_t m = 0; m < MIXED; m++)
@@ -204,7 +211,7 @@ static void mixings(void)
 static void compare_changed(int kind, int damaged)
 {
     uint32_t tenant = (uint32_t)random_below(TENANTS);
-    call c = some_call(kind, tenant, lists.tenants[tenant].held > 0 ? held_name(tenant) : some_name());
+    call c = some_call(kind, tenant, cells_of(tenant) > 0 ? held_name(tenant) : some_name());
     if (!damaged) {
         compare_call(copy, BOOK, &changed, &c);
         return;
@@ -291,7 +298,7 @@ static void compare_length(uint8_t *b, size_t length)
         same_answer(&ours, &theirs);
     }
     ABOUT("opening a book of %zu bytes", length);
-    expect(compare_open_book(b, length, quotas, TENANTS, ids, sizeof ids, &changed), 101);
+    expect(compare_open_book(b, length, quotas, TENANTS, ids, sizeof ids, principals, sizeof principals, &changed), 101);
 }
 
 /* A good book of more bytes than 32 bits can count. */
@@ -308,9 +315,10 @@ static void huge_book(void)
         ABOUT("%s on a book that 32 bits cannot count", kind_names[kind]);
         expect(our_answer(map, more + BOOK, &c).number, 101);
     }
-    expect(lambukir_open_book(map, more + BOOK, quotas, TENANTS, ids, sizeof ids), 101);
-    expect(lambukir_open_book(book, BOOK, quotas, TENANTS, map, more + sizeof ids), 103);
-    expect(lambukir_open_book(book, BOOK, (const uint16_t *)(const void *)map, more / 2 + TENANTS, ids, sizeof ids), 103);
+    expect(lambukir_open_book(map, more + BOOK, quotas, TENANTS, ids, sizeof ids, principals, TENANTS), 101);
+    expect(lambukir_open_book(book, BOOK, quotas, TENANTS, map, more + sizeof ids, principals, TENANTS), 103);
+    expect(lambukir_open_book(book, BOOK, (const uint16_t *)(const void *)map, more / 2 + TENANTS, ids, sizeof ids, principals, TENANTS), 103);
+    expect(lambukir_open_book(book, BOOK, quotas, TENANTS, ids, sizeof ids, map, more + TENANTS), 103);
     munmap(map, more + BOOK);
 }
 
@@ -318,7 +326,7 @@ static void huge_book(void)
 static void empty_slices(void)
 {
     uint32_t tenant = 0;
-    while (lists.tenants[tenant].held == 0)
+    while (cells_of(tenant) == 0)
         tenant++;
     static const struct { int reg, permit, out; uint32_t number; } rows[] = {{1, 0, 0, 107}, {0, 1, 0, 106}, {0, 0, 1, 108}, {1, 1, 1, 108}, {1, 1, 0, 106}};
     for (size_t i = 0; i < COUNT(rows); i++) {
@@ -334,9 +342,10 @@ static void empty_slices(void)
     ABOUT("check of an empty line");
     expect(compare_call(book, BOOK, &lists, &c).number, 12);
     ABOUT("opening with empty slices");
-    expect(compare_open_book(book, BOOK, quotas, 0, ids, sizeof ids, &changed), 103);
-    expect(compare_open_book(book, BOOK, quotas, TENANTS, ids, 0, &changed), 103);
-    expect(compare_open_book(book, 0, quotas, 0, ids, 0, &changed), 101);
+    expect(compare_open_book(book, BOOK, quotas, 0, ids, sizeof ids, principals, TENANTS, &changed), 103);
+    expect(compare_open_book(book, BOOK, quotas, TENANTS, ids, 0, principals, TENANTS, &changed), 103);
+    expect(compare_open_book(book, BOOK, quotas, TENANTS, ids, sizeof ids, principals, 0, &changed), 103);
+    expect(compare_open_book(book, 0, quotas, 0, ids, 0, principals, 0, &changed), 101);
 }
 
 /* Each length but the right one, of the start of a full book. */
@@ -351,11 +360,11 @@ static void lengths(void)
     huge_book();
 }
 
-/* Opens over random bytes. */
+/* Opens over random bytes, with the principals at hand. */
 static uint32_t compare_opening(size_t length, const uint16_t *q, size_t quotas_length, const uint8_t *i, size_t ids_length)
 {
     random_bytes(book, 512);
-    return compare_open_book(book, length, q, quotas_length, i, ids_length, &lists);
+    return compare_open_book(book, length, q, quotas_length, i, ids_length, principals, TENANTS, &lists);
 }
 
 /* Sums of quotas on both sides of 512, and those that 16 bits would take for small ones. */
@@ -365,10 +374,12 @@ static void sums(void)
     for (int round = 0; round < 60; round++)
         for (size_t i = 0; i < COUNT(given); i++) {
             some_quotas(given[i]);
+            some_principals();
             some_ids();
             ABOUT("quotas of sum %" PRIu32, given[i]);
             expect(compare_opening(BOOK, quotas, TENANTS, ids, sizeof ids), given[i] <= MOST ? 0 : 103);
         }
+    no_principals();
     for (size_t t = 0; t + 1 < TENANTS; t++)
         for (uint32_t add = 1; add <= 512; add += 511) {
             memset(quotas, 0, sizeof quotas);
@@ -386,7 +397,47 @@ static void sums(void)
     expect(compare_opening(BOOK, quotas, TENANTS, ids, sizeof ids), 103);
 }
 
-/* Each byte at each place of the IDs, each number of quotas and of ID bytes, and a book of another length before all that. */
+/* Each byte as each tenant's principal, where the others have branches and where they have none, and each number of principals. */
+static void given_principals(void)
+{
+    uint8_t more[40] = {0};
+    for (int round = 0; round < 24; round++)
+        for (size_t t = 0; t < TENANTS; t++)
+            for (unsigned byte = 0; byte < 256; byte++) {
+                some_quotas(round % 2 ? MOST : 5);
+                some_principals();
+                if (round % 3 == 0)
+                    quotas[t] = 0;
+                principals[t] = (uint8_t)byte;
+                ABOUT("principal byte %zu as %02X", t, byte);
+                compare_opening(BOOK, quotas, TENANTS, ids, sizeof ids);
+            }
+    memset(quotas, 0, sizeof quotas);
+    no_principals();
+    for (size_t t = 0; t < TENANTS; t++) {
+        ABOUT("tenant %zu as a branch of the next one", t);
+        principals[t] = (uint8_t)((t + 1) % TENANTS + 1);
+        expect(compare_opening(BOOK, quotas, TENANTS, ids, sizeof ids), 0);
+        ABOUT("tenant %zu as a branch of a branch", (t + 5) % TENANTS);
+        principals[(t + 5) % TENANTS] = (uint8_t)(t + 1);
+        expect(compare_opening(BOOK, quotas, TENANTS, ids, sizeof ids), 103);
+        ABOUT("tenant %zu with a quota as a branch", t);
+        principals[(t + 5) % TENANTS] = 0;
+        quotas[t] = 1;
+        expect(compare_opening(BOOK, quotas, TENANTS, ids, sizeof ids), 103);
+        ABOUT("tenant %zu as its own principal", t);
+        quotas[t] = 0;
+        principals[t] = (uint8_t)(t + 1);
+        expect(compare_opening(BOOK, quotas, TENANTS, ids, sizeof ids), 103);
+        principals[t] = 0;
+    }
+    for (size_t n = 0; n <= sizeof more; n++) {
+        ABOUT("%zu principals", n);
+        expect(compare_open_book(book, BOOK, quotas, TENANTS, ids, sizeof ids, more, n, &lists), n == TENANTS ? 0 : 103);
+    }
+}
+
+/* Each byte at each place of the IDs, each number of quotas and of ID bytes, principals, and a book of another length before all that. */
 static void opening(void)
 {
     uint16_t more_quotas[40] = {0};
@@ -394,6 +445,7 @@ static void opening(void)
     memset(more_ids, 'A', sizeof more_ids);
     memset(book, 0, sizeof book);
     sums();
+    given_principals();
     some_quotas(MOST);
     some_ids();
     for (size_t at = 0; at < sizeof ids; at++)
@@ -426,10 +478,13 @@ static int is_due(int kind, unsigned reasons, uint32_t number)
     return 0;
 }
 
-/* A call with a set of reasons to refuse it at once. Even tenants have used their quota, odd ones have not. */
+/* A call with a set of reasons to refuse it at once. Even tenants have used their quota, odd ones have not; the last four are branches of some of these,
+   even ones of even ones. */
 static void compare_reasons(int kind, unsigned reasons, size_t count)
 {
-    uint32_t tenant = 2 * (uint32_t)random_below(TENANTS / 2) + !is_due(kind, reasons, 105);
+    int due = is_due(kind, reasons, 111), never = !is_enter(kind) && kind != WITHDRAW && kind != HOUSE_WITHDRAW;
+    uint32_t pairs = due ? 2 : never ? TENANTS / 2 : TENANTS / 2 - 2;
+    uint32_t tenant = 2 * (uint32_t)random_below(pairs) + !is_due(kind, reasons, 105) + (due ? TENANTS - 4 : 0);
     int absent = is_due(kind, reasons, 104) || is_due(kind, reasons, 105);
     call c = some_call(kind, tenant, absent || (is_enter(kind) && random_below(2)) ? absent_name(tenant) : held_name(tenant));
     for (size_t i = count; i-- > 0;)
@@ -450,10 +505,12 @@ static void compare_reasons(int kind, unsigned reasons, size_t count)
 static void orders(void)
 {
     for (int round = 0; round < 12; round++) {
-        for (size_t t = 0; t < TENANTS; t++)
-            quotas[t] = t % 2 ? 5 : 3;
+        for (size_t t = 0; t < TENANTS; t++) {
+            quotas[t] = t >= TENANTS - 4 ? 0 : t % 2 ? 5 : 3;
+            principals[t] = t >= TENANTS - 4 ? (uint8_t)(2 * random_below(TENANTS / 2 - 2) + t % 2 + 1) : 0;
+        }
         open_lists();
-        for (uint32_t t = 0; t < TENANTS; t++)
+        for (uint32_t t = 0; t < TENANTS - 4; t++)
             fill(t, t % 2 ? 1 + random_below(4) : 3);
         model_bytes_of_book(&lists, book);
         for (int kind = 0; kind < KINDS; kind++) {
@@ -492,18 +549,18 @@ static void issue_and_read(uint32_t tenant, const model_cell *cell)
     same_line(&read, &expected);
 }
 
-/* Every cell of full books, and outputs of each length. */
+/* Every cell of full books, for branches some of them, and outputs of each length. */
 static void issue(void)
 {
     for (int i = 0; i < 12; i++) {
         some_book(MOST, MOST);
         for (uint32_t t = 0; t < TENANTS; t++)
-            for (size_t n = 0; n < lists.tenants[t].held; n++) {
+            for (size_t n = 0; n < cells_of(t); n += is_branch(t) ? 1 + random_below(32) : 1) {
                 ABOUT("full book %d, cell %zu of tenant %" PRIu32, i, n, t);
-                issue_and_read(t, &lists.tenants[t].cells[n]);
+                issue_and_read(t, &lists.tenants[reads(t)].cells[n]);
             }
         for (uint32_t t = 0; t < TENANTS; t++)
-            for (size_t length = 0; length <= 80 && lists.tenants[t].held > 0; length++) {
+            for (size_t length = 0; length <= 80 && cells_of(t) > 0; length++) {
                 call c = some_call(ISSUE, t, held_name(t));
                 random_bytes(c.out, c.out_length = length);
                 ABOUT("full book %d, output of %zu bytes", i, length);
@@ -518,11 +575,16 @@ static uint32_t compare_kind(int kind, uint32_t tenant, uint64_t name)
     return compare_call(book, BOOK, &lists, &c).number;
 }
 
-/* A tenant with its quota used: what it holds is replaced, what is new is refused, and what it gives up is free at once. */
+/* A tenant with its quota used: what it holds is replaced, what is new is refused, and what it gives up is free at once. A branch enters and withdraws
+   nothing. */
 static void use_quota(uint32_t tenant)
 {
     ABOUT("tenant %" PRIu32 " with its quota of %" PRIu32 " used", tenant, lists.tenants[tenant].quota);
-    expect(compare_kind(ENTER, tenant, absent_name(tenant)), 105);
+    expect(compare_kind(ENTER, tenant, absent_name(tenant)), is_branch(tenant) ? 111 : 105);
+    if (is_branch(tenant) && cells_of(tenant) > 0) {
+        expect(compare_kind(ENTER, tenant, held_name(tenant)), 111);
+        expect(compare_kind(WITHDRAW, tenant, held_name(tenant)), 111);
+    }
     if (lists.tenants[tenant].held == 0)
         return;
     for (int i = 0; i < 3; i++) {
@@ -541,6 +603,7 @@ static void quota(void)
 {
     for (int i = 0; i < 12; i++) {
         some_quotas(i % 3 == 2 ? 100 : MOST);
+        some_principals();
         open_lists();
         model_bytes_of_book(&lists, book);
         for (uint32_t n = 0; n < TENANTS; n++) {
@@ -556,12 +619,12 @@ static void quota(void)
     }
 }
 
-/* Which producers a tenant holds a cell of, by every record of the bytes. */
+/* Which producers a tenant has a cell of, by every record of the bytes. */
 static void held_producers(uint32_t tenant, uint8_t held[65536])
 {
     memset(held, 0, 65536);
     for (const uint8_t *r = book + RECORDS; r < book + RECORDS + record_count() * RECORD_SIZE; r += RECORD_SIZE)
-        if (r[0] == tenant)
+        if (r[0] == reads(tenant))
             held[r[NAME_AT] * 256 + r[NAME_AT + 1]] = 1;
 }
 
@@ -589,6 +652,7 @@ static void few_producers(const char *first, const char *second)
 {
     static uint8_t held[65536];
     some_quotas(MOST);
+    some_principals();
     open_lists();
     for (uint32_t t = 0; t < TENANTS; t++)
         while (lists.tenants[t].held < quotas[t] && random_below(40) != 0)
@@ -680,6 +744,7 @@ static void house(void)
     for (size_t i = 0; i < COUNT(filled); i++) {
         for (size_t t = 0; t < TENANTS; t++)
             quotas[t] = MOST / TENANTS;
+        no_principals();
         fill_book(filled[i]);
         every_place();
         some_book(filled[i], MOST);

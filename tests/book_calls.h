@@ -25,10 +25,10 @@ static const char *const kind_names[KINDS] = {"enter", "withdraw", "house enter"
 
 /* The rules' order of refusals of each call, ended by 0. */
 static const uint32_t orders_of[KINDS][12] = {
-    [ENTER] = {101, 102, 103, 105},
-    [WITHDRAW] = {101, 102, 103, 104},
-    [HOUSE_ENTER] = {101, 102, 103, 105},
-    [HOUSE_WITHDRAW] = {101, 102, 103, 104},
+    [ENTER] = {101, 102, 103, 111, 105},
+    [WITHDRAW] = {101, 102, 103, 111, 104},
+    [HOUSE_ENTER] = {101, 102, 103, 111, 105},
+    [HOUSE_WITHDRAW] = {101, 102, 103, 111, 104},
     [SET_DAYS] = {101, 102, 103},
     [ASK_EDITION] = {101, 102, 103, 104},
     [ASK_PRODUCER] = {101, 102, 103},
@@ -239,7 +239,8 @@ static inline void spoil_register(call *c)
     c->reg_length = bad_register_lengths[which];
 }
 
-/* Spoils a call so that a number is due, of those that come neither from the book's damage nor from what it holds (101, 104, 105).
+/* Spoils a call so that a number is due, of those that come neither from the book's damage nor from what it holds and
+   whom a tenant names (101, 104, 105, 111).
    For two numbers at once the later one of the rules' order is to be spoilt first. */
 static inline void spoil(call *c, uint32_t number)
 {
@@ -418,12 +419,13 @@ static inline answer compare_call(uint8_t *book, size_t length, model_book *list
 
 /* One opening of both, over bytes of any kind. */
 static inline uint32_t compare_open_book(uint8_t *book, size_t length, const uint16_t *quotas, size_t quotas_length, const uint8_t *ids, size_t ids_length,
-                                         model_book *lists)
+                                         const uint8_t *principals, size_t principals_length, model_book *lists)
 {
     lent b = lend(book, length, random_below(16)), q = lend(quotas, quotas_length * sizeof *quotas, 2 * random_below(8));
-    lent i = lend(ids, ids_length, random_below(16));
-    uint32_t number = lambukir_open_book(b.bytes, length, (const uint16_t *)(const void *)q.bytes, quotas_length, i.bytes, ids_length);
-    same(number, model_open_book(lists, length, quotas, quotas_length, ids, ids_length), "%s: number of open", about);
+    lent i = lend(ids, ids_length, random_below(16)), p = lend(principals, principals_length, random_below(16));
+    uint32_t number =
+        lambukir_open_book(b.bytes, length, (const uint16_t *)(const void *)q.bytes, quotas_length, i.bytes, ids_length, p.bytes, principals_length);
+    same(number, model_open_book(lists, length, quotas, quotas_length, ids, ids_length, principals, principals_length), "%s: number of open", about);
     same((uint64_t)zones_kept(&b), 1, "%s: the guard bytes of the book", about);
     if (number == 0 && length == BOOK)
         same_book(b.bytes, lists);
@@ -433,6 +435,7 @@ static inline uint32_t compare_open_book(uint8_t *book, size_t length, const uin
     give_back(&b);
     same_kept(&q, "quotas");
     same_kept(&i, "IDs");
+    same_kept(&p, "principals");
     return number;
 }
 

@@ -19,7 +19,7 @@
 static model_book lists, changed; /* the lists of the book, and those of a changed copy */
 static uint8_t book[BOOK_ROOM], copy[BOOK_ROOM];
 static uint16_t quotas[TENANTS];
-static uint8_t ids[2 * TENANTS];
+static uint8_t ids[2 * TENANTS], principals[TENANTS];
 
 static inline void some_ids(void)
 {
@@ -40,19 +40,52 @@ static inline void some_quotas(uint32_t sum)
     }
 }
 
-/* The lists of an empty book with these quotas; warning days of all kinds. */
+static inline void no_principals(void)
+{
+    memset(principals, 0, sizeof principals);
+}
+
+/* Of the tenants that have no quota some are branches, each of one that is none. */
+static inline void some_principals(void)
+{
+    no_principals();
+    for (size_t t = 0; t < TENANTS; t++) {
+        size_t principal = random_below(TENANTS);
+        if (quotas[t] == 0 && principal != t && principals[principal] == 0 && !memchr(principals, (int)t + 1, TENANTS) && random_below(2))
+            principals[t] = (uint8_t)(principal + 1);
+    }
+}
+
+/* The lists of an empty book with these quotas and principals; warning days of all kinds. */
 static inline void open_lists(void)
 {
     some_ids();
-    model_open_book(&lists, BOOK, quotas, TENANTS, ids, sizeof ids);
+    model_open_book(&lists, BOOK, quotas, TENANTS, ids, sizeof ids, principals, sizeof principals);
     for (uint32_t t = 0; t < TENANTS; t++)
         model_set_days(&lists, t, some_days());
 }
 
-/* A name that the tenant does not hold, often one that is near to a held one. */
+static inline int is_branch(uint32_t tenant)
+{
+    return lists.tenants[tenant].principal != 0;
+}
+
+/* The tenant whose cells this one reads. */
+static inline uint32_t reads(uint32_t tenant)
+{
+    return is_branch(tenant) ? lists.tenants[tenant].principal - 1 : tenant;
+}
+
+/* How many cells it reads. */
+static inline size_t cells_of(uint32_t tenant)
+{
+    return lists.tenants[reads(tenant)].held;
+}
+
+/* A name that is none of the tenant's, often one that is near to one of these. */
 static inline uint64_t absent_name(uint32_t tenant)
 {
-    const model_tenant *t = &lists.tenants[tenant];
+    const model_tenant *t = &lists.tenants[reads(tenant)];
     for (;;) {
         uint64_t name = t->held > 0 && random_below(2) ? near_name(t->cells[random_below(t->held)].name) : some_name();
         if (model_ask_edition(&lists, tenant, name).number == 104)
@@ -62,7 +95,7 @@ static inline uint64_t absent_name(uint32_t tenant)
 
 static inline uint64_t held_name(uint32_t tenant)
 {
-    const model_tenant *t = &lists.tenants[tenant];
+    const model_tenant *t = &lists.tenants[reads(tenant)];
     return t->cells[random_below(t->held)].name;
 }
 
@@ -86,10 +119,11 @@ static inline void fill_book(uint32_t records)
     model_bytes_of_book(&lists, book);
 }
 
-/* And with quotas of a sum that allows them. */
+/* And with quotas of a sum that allows them, and principals. */
 static inline void some_book(uint32_t records, uint32_t quotas_sum)
 {
     some_quotas(quotas_sum);
+    some_principals();
     fill_book(records);
 }
 
@@ -121,6 +155,25 @@ static inline size_t quota_sum(void)
     return sum;
 }
 
+/* Lets a tenant name nobody that there is, itself, one who names somebody, or anybody while it has a quota. */
+static inline void spoil_principal(uint8_t *b)
+{
+    size_t t = random_below(TENANTS), other = (t + 1 + random_below(TENANTS - 1)) % TENANTS;
+    uint8_t *own = b + SETTINGS + t * SETTING;
+    switch (random_below(4)) {
+    case 0: own[SPARE_AT] = (uint8_t)(TENANTS + 1 + random_below(255 - TENANTS)); break;
+    case 1: own[SPARE_AT] = (uint8_t)(t + 1); break;
+    case 2:
+        b[SETTINGS + other * SETTING + SPARE_AT] = (uint8_t)(1 + random_below(TENANTS));
+        own[SPARE_AT] = (uint8_t)(other + 1);
+        break;
+    default:
+        while (lists.tenants[t].quota == 0)
+            t = (t + 1) % TENANTS;
+        b[SETTINGS + t * SETTING + SPARE_AT] = (uint8_t)(1 + random_below(TENANTS));
+    }
+}
+
 /* Breaks one rule of a copy of the book, which has two records at least; the answer is the copy's length. */
 static inline size_t spoil_book(uint8_t *b)
 {
@@ -138,7 +191,7 @@ static inline size_t spoil_book(uint8_t *b)
     case 6: put16(b + SETTINGS + any[0] * SETTING, lists.tenants[any[0]].held - 1); break;
     case 7: setting[DAYS_AT] = (uint8_t)(random_below(2) ? 0 : 91 + random_below(165)); break;
     case 8: setting[ID_AT + random_below(2)] = (uint8_t)NO_NAMES[random_below(sizeof NO_NAMES)]; break;
-    case 9: setting[SPARE_AT] = (uint8_t)(1 + random_below(255)); break;
+    case 9: spoil_principal(b); break;
     case 10: end[-RECORD_SIZE] = (uint8_t)(16 + random_below(240)); break;
     case 11: any[NAME_AT + random_below(8)] = (uint8_t)NO_NAMES[random_below(sizeof NO_NAMES)]; break;
     case 12: put16(any + EDITION_AT, random_below(2) ? 0 : 1000 + random_below(64536)); break;

@@ -17,7 +17,7 @@ typedef struct {
     size_t length;
 } slice;
 
-enum { BOOK, REGISTER, PERMIT, LINE, LINES, LIST, IDS, KEY, TEXT, OUT, QUOTAS, SLICES };
+enum { BOOK, REGISTER, PERMIT, LINE, LINES, LIST, IDS, PRINCIPALS, KEY, TEXT, OUT, QUOTAS, SLICES };
 
 static uint8_t book[LAMBUKIR_BOOK_SIZE], out[LAMBUKIR_LINE_SIZE], permit[LAMBUKIR_USER_PERMIT_SIZE], line[LAMBUKIR_LINE_SIZE];
 static const char ids[] = "NODEA2A3A4A5A6A7A8A9B0B1B2B3B4B5";
@@ -25,10 +25,11 @@ static const char list[] = ":DATE 20240131 09:30\r\n:VERSION 2\r\n:CONTENT FULL\
                            "NO4D0613.000,20240101,10,,,,,,,,2,1,0,,B1,\r\nDE416080.000,20240101,3,,,,,,,,2,1,0,,B1,\r\n:ECS\r\n";
 static char file[200]; /* a permit file with that one line */
 static uint16_t quotas[LAMBUKIR_TENANTS] = {5};
+static const uint8_t principals[LAMBUKIR_TENANTS] = {0, 1};
 
 static void fill(slice s[SLICES])
 {
-    lambukir_open_book(book, sizeof book, quotas, LAMBUKIR_TENANTS, (const uint8_t *)ids, LAMBUKIR_IDS_SIZE);
+    lambukir_open_book(book, sizeof book, quotas, LAMBUKIR_TENANTS, (const uint8_t *)ids, LAMBUKIR_IDS_SIZE, principals, sizeof principals);
     lambukir_enter(book, sizeof book, 0, NAME, 10, 1, 2);
     lambukir_make_user_permit((const uint8_t *)"0198765", 7, HW_ID, 0x3031, permit, sizeof permit);
     lambukir_written written = lambukir_write_line(HW_ID, NAME, EXPIRY, 1, 2, 0, 10, 0x4742, line, sizeof line);
@@ -41,6 +42,7 @@ static void fill(slice s[SLICES])
         [LINES] = {(const uint8_t *)file, (size_t)length},
         [LIST] = {(const uint8_t *)list, sizeof list - 1},
         [IDS] = {(const uint8_t *)ids, LAMBUKIR_IDS_SIZE},
+        [PRINCIPALS] = {principals, sizeof principals},
         [KEY] = {(const uint8_t *)"98765", 5},
         [TEXT] = {(const uint8_t *)"NO4D0613", 8},
         [OUT] = {out, sizeof out},
@@ -76,7 +78,7 @@ static uint64_t call(int which, const slice s[SLICES])
     case 14: return lambukir_crc32(LENT(LINES));
     case 15: return lambukir_encipher_block(LENT(KEY), 1).number;
     case 16: return lambukir_decipher_block(LENT(KEY), 1).number;
-    case 17: return lambukir_open_book(WRITTEN(BOOK), (const uint16_t *)(const void *)s[QUOTAS].bytes, s[QUOTAS].length, LENT(IDS));
+    case 17: return lambukir_open_book(WRITTEN(BOOK), (const uint16_t *)(const void *)s[QUOTAS].bytes, s[QUOTAS].length, LENT(IDS), LENT(PRINCIPALS));
     case 18: return lambukir_name_from_text(LENT_TEXT);
     case 19: return lambukir_hw_id_from_text(LENT_TEXT) | lambukir_code_from_text(LENT_TEXT);
     case 20: return lambukir_key_from_hex(LENT_TEXT);

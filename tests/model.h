@@ -23,14 +23,14 @@ lambukir_standing model_product_standing(const uint8_t *list, size_t list_length
 #define MODEL_REPORT 600000 /* more than the longest report: 32,739 lines of 18 bytes, and the totals */
 size_t model_look_through(const uint8_t *input, size_t length, uint8_t *report);
 
-/* The book as lists: what each tenant holds, in name order. */
+/* The book as lists: what each tenant holds, in name order. A branch holds nothing itself: it names its principal, by the number plus one. */
 #define MODEL_TENANTS 16
 typedef struct {
     uint64_t name, key_one, key_two;
     uint32_t edition;
 } model_cell;
 typedef struct {
-    uint32_t quota, days, server;
+    uint32_t quota, days, server, principal;
     size_t held;
     model_cell cells[512]; /* the first `held` of them */
 } model_tenant;
@@ -44,7 +44,8 @@ void model_bytes_of_book(const model_book *b, uint8_t book[LAMBUKIR_BOOK_SIZE]);
 void model_book_of_bytes(const uint8_t book[LAMBUKIR_BOOK_SIZE], model_book *b);
 
 /* The calls on lists: no damage there, and no 101 but at opening. */
-uint32_t model_open_book(model_book *b, size_t book_length, const uint16_t *quotas, size_t quotas_length, const uint8_t *ids, size_t ids_length);
+uint32_t model_open_book(model_book *b, size_t book_length, const uint16_t *quotas, size_t quotas_length, const uint8_t *ids, size_t ids_length,
+                         const uint8_t *principals, size_t principals_length);
 uint32_t model_enter(model_book *b, uint32_t tenant, uint64_t name, uint32_t edition, uint64_t key_one, uint64_t key_two);
 uint32_t model_withdraw(model_book *b, uint32_t tenant, uint64_t name);
 uint32_t model_set_days(model_book *b, uint32_t tenant, uint32_t days);

@@ -1,4 +1,5 @@
-/* The model's book: for each tenant a list of cells in name order. The calls work on the lists; bytes are made of them, and judged, apart from that. */
+/* The model's book: for each tenant a list of cells in name order; a branch reads its principal's. The calls work on the lists; bytes are made of them,
+   and judged, apart from that. */
 #include "model_parts.h"
 
 #define SETTINGS 5 /* where they begin, after the version and the used length */
@@ -8,13 +9,28 @@
 #define MOST_CELLS 512
 #define FIRST_DAYS 30
 
+/* A tenant names nobody; or it has no quota, and names a tenant other than itself that names nobody. named[0] to named[15] are what the tenants name. */
+static bool may_name(size_t tenant, uint64_t quota, const uint8_t *named)
+{
+    size_t principal = named[tenant];
+    if (principal == 0)
+        return true;
+    if (principal > MODEL_TENANTS || principal - 1 == tenant || quota != 0)
+        return false;
+    return named[principal - 1] == 0;
+}
+
 /* Quotas that fit, and sixteen settings of good form. */
 static bool are_settings(const uint8_t *settings)
 {
     uint64_t quotas = 0;
-    for (const uint8_t *s = settings; s < settings + MODEL_TENANTS * SETTING; s += SETTING) {
+    uint8_t named[MODEL_TENANTS];
+    for (size_t t = 0; t < MODEL_TENANTS; t++)
+        named[t] = settings[t * SETTING + 5];
+    for (size_t t = 0; t < MODEL_TENANTS; t++) {
+        const uint8_t *s = settings + t * SETTING;
         quotas += number_of(s, 2);
-        if (s[2] < 1 || s[2] > 90 || !is_name(s + 3, 2) || s[5] != 0)
+        if (s[2] < 1 || s[2] > 90 || !is_name(s + 3, 2) || !may_name(t, number_of(s, 2), named))
             return false;
     }
     return quotas <= MOST_CELLS;
@@ -64,6 +80,7 @@ void model_bytes_of_book(const model_book *b, uint8_t book[LAMBUKIR_BOOK_SIZE])
         bytes_of(setting, 2, t->quota);
         bytes_of(setting + 2, 1, t->days);
         bytes_of(setting + 3, 2, t->server);
+        bytes_of(setting + 5, 1, t->principal);
         for (size_t c = 0; c < t->held; c++, record += RECORD) {
             record[0] = (uint8_t)i;
             bytes_of(record + 1, 8, t->cells[c].name);
@@ -84,6 +101,7 @@ void model_book_of_bytes(const uint8_t book[LAMBUKIR_BOOK_SIZE], model_book *b)
         t->quota = (uint32_t)number_of(setting, 2);
         t->days = setting[2];
         t->server = (uint32_t)number_of(setting + 3, 2);
+        t->principal = setting[5];
         t->held = 0;
     }
     for (const uint8_t *r = book + RECORDS; r < book + number_of(book + 1, 4); r += RECORD) {
@@ -92,15 +110,19 @@ void model_book_of_bytes(const uint8_t book[LAMBUKIR_BOOK_SIZE], model_book *b)
     }
 }
 
-uint32_t model_open_book(model_book *b, size_t book_length, const uint16_t *quotas, size_t quotas_length, const uint8_t *ids, size_t ids_length)
+uint32_t model_open_book(model_book *b, size_t book_length, const uint16_t *quotas, size_t quotas_length, const uint8_t *ids, size_t ids_length,
+                         const uint8_t *principals, size_t principals_length)
 {
     uint32_t sum = 0;
     if (book_length != LAMBUKIR_BOOK_SIZE)
         return 101;
-    if (quotas_length != MODEL_TENANTS || ids_length != 2 * MODEL_TENANTS || !is_name(ids, ids_length))
+    if (quotas_length != MODEL_TENANTS || ids_length != 2 * MODEL_TENANTS || !is_name(ids, ids_length) || principals_length != MODEL_TENANTS)
         return 103;
-    for (size_t i = 0; i < MODEL_TENANTS; i++)
+    for (size_t i = 0; i < MODEL_TENANTS; i++) {
         sum += quotas[i];
+        if (!may_name(i, quotas[i], principals))
+            return 103;
+    }
     if (sum > MOST_CELLS)
         return 103;
     for (size_t i = 0; i < MODEL_TENANTS; i++) {
@@ -108,9 +130,17 @@ uint32_t model_open_book(model_book *b, size_t book_length, const uint16_t *quot
         t->quota = quotas[i];
         t->days = FIRST_DAYS;
         t->server = (uint32_t)number_of(ids + 2 * i, 2);
+        t->principal = principals[i];
         t->held = 0;
     }
     return 0;
+}
+
+/* Who keeps the cells that a tenant reads: its principal, or itself. */
+static const model_tenant *keeper_of(const model_book *b, uint32_t tenant)
+{
+    uint32_t principal = b->tenants[tenant].principal;
+    return &b->tenants[principal != 0 ? principal - 1 : tenant];
 }
 
 /* Where the first cell stands whose name is not below this one. */
@@ -136,6 +166,8 @@ uint32_t model_enter(model_book *b, uint32_t tenant, uint64_t name, uint32_t edi
     if (!is_name_number(name, 8) || edition < 1 || edition > 999 || key_one >> 40 != 0 || key_two >> 40 != 0)
         return 103;
     model_tenant *t = &b->tenants[tenant];
+    if (t->principal != 0)
+        return 111;
     size_t at = place_of(t, name);
     if (!held_cell(t, name)) {
         if (t->held >= t->quota)
@@ -154,6 +186,8 @@ uint32_t model_withdraw(model_book *b, uint32_t tenant, uint64_t name)
     if (!is_name_number(name, 8))
         return 103;
     model_tenant *t = &b->tenants[tenant];
+    if (t->principal != 0)
+        return 111;
     size_t at = place_of(t, name);
     if (!held_cell(t, name))
         return 104;
@@ -205,11 +239,11 @@ lambukir_edition model_ask_edition(const model_book *b, uint32_t tenant, uint64_
         return (lambukir_edition){.number = 102};
     if (!is_name_number(name, 8))
         return (lambukir_edition){.number = 103};
-    const model_cell *cell = held_cell(&b->tenants[tenant], name);
+    const model_cell *cell = held_cell(keeper_of(b, tenant), name);
     return cell ? (lambukir_edition){.edition = cell->edition} : (lambukir_edition){.number = 104};
 }
 
-/* Looks at every cell that the tenant holds, and compares the first two characters of its name. */
+/* Looks at every cell that the tenant reads, and compares the first two characters of its name. */
 lambukir_held model_ask_producer(const model_book *b, uint32_t tenant, uint32_t producer)
 {
     lambukir_held answer = {0};
@@ -219,8 +253,9 @@ lambukir_held model_ask_producer(const model_book *b, uint32_t tenant, uint32_t 
     if (!is_name_number(producer, 2))
         return (lambukir_held){.number = 103};
     bytes_of(asked, 2, producer);
-    for (size_t c = 0; c < b->tenants[tenant].held; c++) {
-        bytes_of(name, 8, b->tenants[tenant].cells[c].name);
+    const model_tenant *keeper = keeper_of(b, tenant);
+    for (size_t c = 0; c < keeper->held; c++) {
+        bytes_of(name, 8, keeper->cells[c].name);
         if (memcmp(name, asked, 2) == 0)
             answer.held = 1;
     }
@@ -241,11 +276,10 @@ lambukir_written model_issue(const model_book *b, const uint8_t *reg, size_t reg
     lambukir_user_permit ship = read_by_register(reg, reg_length, permit, permit_length);
     if (ship.number != 0)
         return (lambukir_written){.number = ship.number};
-    const model_tenant *t = &b->tenants[tenant];
-    const model_cell *cell = held_cell(t, name);
+    const model_cell *cell = held_cell(keeper_of(b, tenant), name);
     if (!cell)
         return (lambukir_written){.number = 104};
-    return model_write_line(ship.hw_id, name, expiry, cell->key_one, cell->key_two, level, cell->edition, t->server, out, out_length);
+    return model_write_line(ship.hw_id, name, expiry, cell->key_one, cell->key_two, level, cell->edition, b->tenants[tenant].server, out, out_length);
 }
 
 lambukir_line model_check(const model_book *b, uint32_t tenant, uint64_t hw_id, uint32_t today, const uint8_t *line, size_t line_length)
