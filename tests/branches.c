@@ -78,21 +78,20 @@ static int hears(size_t member, size_t n)
     return calls[n].member == member || (calls[n].member == principal_of[member] && changes_cells(&calls[n].made));
 }
 
-/* 60 calls of the members, each about one of a few names of the list that it reads. Now and then one is spoilt, but never so that it is nobody's. */
+/* 60 calls of the members, each about one of a few names of the list that it reads. Now and then one has a wrong value. */
 static void make_calls(void)
 {
-    static const int kinds[] = {ENTER, ENTER, WITHDRAW, WITHDRAW, HOUSE_ENTER, HOUSE_WITHDRAW, SET_DAYS, ASK_EDITION, ASK_EDITION, ASK_PRODUCER, ISSUE, ISSUE, CHECK};
-    uint64_t names[MEMBERS][4];
+    static const int kinds[] = {ENTER,    ENTER,       WITHDRAW,    WITHDRAW,     HOUSE_ENTER, HOUSE_WITHDRAW,
+                                SET_DAYS, ASK_EDITION, ASK_EDITION, ASK_PRODUCER, ISSUE,       ISSUE, CHECK};
+    uint64_t names[MEMBERS][4]; /* of each list, under the member that keeps it */
     for (size_t m = 0; m < MEMBERS; m++)
         for (size_t i = 0; i < COUNT(names[m]); i++)
-            names[m][i] = principal_of[m] != m                          ? names[principal_of[m]][i]
-                          : cells_of(members[m]) > 0 && i % 2 ? held_name(members[m])
-                                                                        : absent_name(members[m]);
+            names[m][i] = cells_of(members[m]) > 0 && i % 2 ? held_name(members[m]) : absent_name(members[m]);
     for (size_t n = 0; n < CALLS; n++) {
         size_t m = calls[n].member = random_below(MEMBERS);
-        calls[n].made = some_call(PICK(kinds), members[m], PICK(names[m]));
+        calls[n].made = some_call(PICK(kinds), members[m], PICK(names[principal_of[m]]));
         if (random_below(8) == 0)
-            spoil(&calls[n].made, orders_of[calls[n].made.kind][2]);
+            spoil(&calls[n].made, calls[n].made.kind == CHECK ? 18 : 103);
     }
 }
 
@@ -126,7 +125,7 @@ static void run_heard(int which, size_t m)
     }
 }
 
-/* Two calls that must keep their order: of one tenant, or of a branch and of its principal that enters or withdraws; the second only where it is kept. */
+/* Two calls that must keep their order: of one tenant; or, where that is asked for, of a branch and of its principal that enters or withdraws. */
 static int in_order(size_t one, size_t two, int kept)
 {
     return calls[one].member == calls[two].member || (kept && (hears(calls[one].member, two) || hears(calls[two].member, one)));
@@ -222,7 +221,7 @@ static void mixings(void)
             same(seen[kind][111] >= 50, 1, "%s: 111 came up %" PRIu32 " times", kind_names[kind], seen[kind][111]);
 }
 
-/* Each call on the copy, of a tenant and of one that it names, by the model or 101. */
+/* Each call of a tenant on the copy, about a cell that somebody holds: by the model, or 101. */
 static void compare_copy(uint32_t tenant)
 {
     int damaged = !model_is_book(copy, BOOK);

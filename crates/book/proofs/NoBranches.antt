@@ -1,7 +1,6 @@
 -- Where no tenant is a branch, what the book promised before there were any follows.
 -- Assumes nothing.
 use mathlib.Core.Path.{_≡_, sym, ap, _∙_}
-use mathlib.Core.Bool.{true}
 use mathlib.Core.List.{List}
 use Prim.Native.Nat.{ℕ}
 use Rattle.bytes.proofs.Every.{never-both}

@@ -1,7 +1,7 @@
 -- Calls of two tenants of which neither is the other's principal may change places: every tenant hears the same calls in the same order.
 -- Assumes nothing.
 use mathlib.Core.Path.{_≡_, refl, sym, ap, _∙_}
-use mathlib.Core.Bool.{Bool, true, false, cond, _&&_, _||_}
+use mathlib.Core.Bool.{Bool, true, false, cond, _||_}
 use mathlib.Core.List.{List, [], _∷_, _++_}
 use Prim.Native.Nat.{ℕ}
 use borrow.Author.Tests.{eqb-true}
@@ -11,7 +11,7 @@ use Rattle.tenants.specs.Calls.{Call}
 use Rattle.tenants.specs.Alone.{Made, callsOf}
 use Rattle.tenants.specs.Branches.{changesCells, changes, callsOn}
 use Rattle.layout.specs.Layout.{listIn}
-use Rattle.book.specs.Mixed.{IsBranch, Apart, PlacesChanged}
+use Rattle.book.specs.Mixed.{PlacesChanged}
 use Rattle.book.proofs.Mixes.{mixing-in-order}
 
 -- two that are taken in by tests which do not both pass may change places

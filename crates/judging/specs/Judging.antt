@@ -1,5 +1,5 @@
 -- The tests of an undamaged book as they are made, one after the other, on its bytes: for contracts inside the crate alone.
-use mathlib.Core.Bool.{Bool, true, cond, _&&_}
+use mathlib.Core.Bool.{Bool, cond, _&&_}
 use mathlib.Core.List.{List}
 use Prim.Native.Nat.{ℕ, zero, suc, _+_, _-_, _*_, _/_}
 use lib.Dec.{leb, ltb, eqb}

@@ -3,17 +3,16 @@
 -- Assumes nothing.
 use mathlib.Core.Path.{_≡_, refl, sym, ap, ap₂, _∙_, subst}
 use mathlib.Core.Bool.{true}
-use mathlib.Core.List.{List, [], _∷_, _++_, append-assoc}
+use mathlib.Core.List.{List, _∷_, _++_, append-assoc}
 use Prim.Native.Nat.{ℕ, zero, suc, _+_, _-_, _*_, _≤_, _<_}
 use native.Mathlib.Omega.{arith}
-use lib.ListN.{length, getD, take, drop, length-append, length-drop, List·getD-append}
+use lib.ListN.{length, getD, take, drop, length-append, length-drop}
 use lib.Seq.{drop-cons, take-all, getD-append-add, split-at, length-take-le}
 use Rattle.bytes.specs.Numbers.{digits, Below, bytesOf}
 use Rattle.bytes.specs.Places.{numberAt}
 use Rattle.bytes.proofs.Digits.{digits-length}
 use Rattle.bytes.proofs.Places.{bytes-at}
 use Rattle.text.specs.Texts.{part}
-use Rattle.tenants.specs.declared.Setting.{Setting}
 use Rattle.tenants.specs.Together.{BookRecord, Book}
 use Rattle.layout.specs.Layout.{
   settingSize,
@@ -37,7 +36,7 @@ use Rattle.layout.specs.Layout.{
 use Rattle.layout.proofs.Each.{each-count, each-written, meet}
 use Rattle.layout.proofs.Sizes.{book-size, settings-size, records-size}
 use Rattle.layout.proofs.Fits.{BookFits, book-fits}
-use Rattle.layout.proofs.ReadBack.{start, head, rest, number-back, bytes-parts, used-back, count-back}
+use Rattle.layout.proofs.ReadBack.{head, rest, number-back, bytes-parts, used-back, count-back}
 use Rattle.layout.proofs.Promises.{undamaged-says}
 use Rattle.layout.proofs.Splits.{bytesBefore, cut-bytes}
 use Rattle.layout.proofs.Written.{zeros-part, setting-written, record-written}

@@ -4,7 +4,6 @@ use mathlib.Core.Path.{_≡_, refl, sym, ap, ap₂, _∙_}
 use mathlib.Core.Bool.{Bool, true, false}
 use mathlib.Core.List.{List}
 use Prim.Native.Nat.{ℕ}
-use lib.Dec.{ltb}
 use Rattle.bytes.proofs.Every.{either, never-both}
 use Rattle.forms.specs.Order.{demand}
 use Rattle.forms.proofs.Demands.{demanded}
@@ -30,7 +29,7 @@ use Rattle.tenants.specs.Rules.{
   settingDays,
 }
 use Rattle.tenants.specs.Calls.{Call, enter, withdraw, setDays, askEdition, askProducer, issue, check, changeOf}
-use Rattle.tenants.specs.Alone.{Made, after}
+use Rattle.tenants.specs.Alone.{after}
 use Rattle.tenants.specs.Branches.{changesCells, asKept}
 use Rattle.tenants.specs.Together.{BookRecord, Book, cellsOf, noSetting, settingOf, listOf, ownOf, changed}
 use Rattle.tenants.proofs.Ordered.{equal-or-not}

@@ -1,6 +1,6 @@
 -- What an answer goes by: the cells, the quota, the warning days, the Data Server ID, and whether it is a branch; not whose.
 -- Assumes nothing.
-use mathlib.Core.Path.{_≡_, refl, ap, ap₂, _∙_}
+use mathlib.Core.Path.{_≡_, refl, ap, _∙_}
 use mathlib.Core.Bool.{_&&_}
 use mathlib.Core.List.{List, _++_}
 use mathlib.Core.Option.{Option, none, some}
@@ -8,32 +8,18 @@ use Prim.Native.Nat.{ℕ}
 use lib.Dec.{leb}
 use Rattle.dates.specs.Calendar.{isDate}
 use Rattle.forms.specs.Order.{demand}
-use Rattle.forms.specs.Identifiers.{isCellName, isHwId}
+use Rattle.forms.specs.Identifiers.{isCellName}
 use Rattle.forms.specs.Output.{Output, text, refusal}
 use Rattle.user_permit.specs.Register.{isRegister}
 use Rattle.user_permit.specs.UserPermit.{readPermit}
 use Rattle.user_permit.specs.declared.UserPermit.{UserPermit}
 use Rattle.user_permit.specs.declared.UserPermit.the-variants as user-permit
 use Rattle.cell_permit.specs.CellPermit.{shipWords, lineOf, lineEnd}
-use Rattle.cell_permit.specs.declared.Cell.{Cell}
 use Rattle.tenants.specs.declared.Held.{Held}
 use Rattle.tenants.specs.declared.Setting.{Setting}
 use Rattle.tenants.specs.Cells.{cellOf}
-use Rattle.tenants.specs.Rules.{
-  Own,
-  isTenant,
-  namesNone,
-  entering,
-  withdrawing,
-  settingDays,
-  asking,
-  askingProducer,
-  lineCell,
-  lineFor,
-  issuing,
-  checking,
-}
-use Rattle.tenants.specs.Calls.{Call, enter, withdraw, setDays, askEdition, askProducer, issue, check, Answer, written, answerOf}
+use Rattle.tenants.specs.Rules.{Own, isTenant, namesNone, entering, withdrawing, settingDays, asking, askingProducer, lineFor, issuing, checking}
+use Rattle.tenants.specs.Calls.{Call, enter, withdraw, setDays, askEdition, askProducer, issue, check, written, answerOf}
 
 -- a line has the Data Server ID, and nothing else of a setting
 same-line : (ship : UserPermit) (cell : Option Held) (setting other : Setting) (expiry level : ℕ) → setting .server ≡ other .server

@@ -1,14 +1,14 @@
 -- However the tenants' calls are mixed, each gets the answers of its own calls, and a branch those that its calls and its principal's changes give together.
 -- Assumes nothing.
 use mathlib.Core.Path.{_≡_, refl, sym, ap, ap₂, _∙_}
-use mathlib.Core.Bool.{Bool, true, false, not, _&&_}
+use mathlib.Core.Bool.{true, false, not}
 use mathlib.Core.List.{List, [], _∷_}
 use Prim.Native.Nat.{ℕ}
-use borrow.Author.Tests.{eq-eqb, ne-eqb, eqb-true, eqb-false, not-true}
+use borrow.Author.Tests.{eq-eqb, ne-eqb, eqb-true, not-true}
 use lib.Dec.{eqb}
 use Rattle.bytes.proofs.Every.{and-first, and-second, either}
 use Rattle.tenants.specs.Rules.{Own, Change, namesNone}
-use Rattle.tenants.specs.Calls.{Call, Answer, changeOf, answerOf}
+use Rattle.tenants.specs.Calls.{Answer, changeOf, answerOf}
 use Rattle.tenants.specs.Alone.{Made, callsOf, after, answersAlone}
 use Rattle.tenants.specs.Branches.{changesCells, changes, callsOn, asKept, answersTogether, isQuiet}
 use Rattle.tenants.specs.Together.{Book, settingOf, listOf, ownOf, changed}

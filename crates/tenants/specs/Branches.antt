@@ -17,16 +17,16 @@ changesCells (askProducer producer) = false
 changesCells (issue register name expiry level permit room) = false
 changesCells (check hw today line) = false
 
--- a call that changes tenant p's cells
+-- a call of tenant p that enters or withdraws
 abbrev pub changes : ℕ → Made → Bool
 changes p m = eqb (m .tenant) p && changesCells (m .call)
 
--- the calls that tenant t's answers go by, which reads the list of tenant p: its own, and those that change p's cells
+-- the calls that tenant t's answers go by, which reads the list of tenant p: its own, and p's that enter and withdraw
 unfoldable pub callsOn : ℕ → ℕ → List Made → List Made
 callsOn t p [] = []
 callsOn t p (m ∷ made) = cond (eqb (m .tenant) t || changes p m) (m ∷ callsOn t p made) (callsOn t p made)
 
--- the same list as its keeper has it: with its quota, and no branch
+-- the same list as the one has it that keeps it: with that one's quota, and no branch
 abbrev pub asKept : ℕ → Own → Own
 asKept quota own = record {
   setting = record { quota = quota; days = own .setting .days; server = own .setting .server; principal = 0 };
@@ -41,7 +41,7 @@ answersTogether t p (m ∷ made) quota own =
     (answerOf t (m .call) own ∷ answersTogether t p made quota (after (changeOf t (m .call) own) own))
     (answersTogether t p made quota (after (changeOf p (m .call) (asKept quota own)) own))
 
--- tenant p changes no cell among these calls
+-- tenant p neither enters nor withdraws among these calls
 unfoldable pub isQuiet : ℕ → List Made → Bool
 isQuiet p [] = true
 isQuiet p (m ∷ made) = not (changes p m) && isQuiet p made

@@ -1,8 +1,7 @@
 -- `judging::are_principals` meets its contract. The invariant: the tenants before t may name as they do.
 -- Assumes nothing.
-use mathlib.Core.Path.{_≡_, sym, ap, _∙_}
+use mathlib.Core.Path.{sym, _∙_}
 use Prim.Native.Nat.{_-_}
-use native.Mathlib.Omega.{arith}
 use borrow.Author.Needs.{needs}
 use borrow.Author.Tests.{not-true, not-false}
 use Rattle.judging.specs.Judging.{principalTest, principalsTest}

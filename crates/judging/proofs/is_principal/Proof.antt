@@ -1,6 +1,5 @@
 -- `judging::is_principal` meets its contract.
 -- Assumes nothing.
-use mathlib.Core.Path.{_≡_}
 use borrow.Author.Needs.{needs}
 use Rattle.judging.proofs.PrincipalTests.{none-named, nobody-named, named-with-quota, tenant-named}
 use Rattle.judging.proofs.is_principal.Statement.{statement}

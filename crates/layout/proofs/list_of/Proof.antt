@@ -1,6 +1,5 @@
 -- `layout::list_of` meets its contract.
 -- Assumes nothing.
-use native.Mathlib.Omega.{arith}
 use borrow.Author.Needs.{needs}
 use Rattle.layout.proofs.Indexed.{list-beyond, list-own, list-principal}
 use Rattle.layout.proofs.list_of.Statement.{statement}

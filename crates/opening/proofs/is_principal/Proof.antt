@@ -7,7 +7,7 @@ use borrow.Author.Needs.{needs}
 use lib.Dec.{eqb}
 use Rattle.tenants.specs.declared.Setting.{Setting}
 use Rattle.tenants.proofs.Principals.{names-none, names-nobody, names-with-quota}
-use Rattle.opening.specs.Opening.{firstSetting, firstSettings}
+use Rattle.opening.specs.Opening.{firstSetting}
 use Rattle.opening.proofs.Given.{tenant-named}
 use Rattle.opening.proofs.is_principal.Statement.{statement}
 use Rattle.opening.proofs.is_principal.Tie as tie
