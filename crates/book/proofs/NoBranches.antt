@@ -14,6 +14,7 @@ use Rattle.book.specs.Producers.{anyRecord}
 use Rattle.book.specs.NoBranches.{NoBranches, OldPromises}
 use Rattle.book.proofs.Mixes.{mixing, own-answers, nothing-else}
 use Rattle.book.proofs.Untouched.{others-untouched}
+use Rattle.book.proofs.DoneCalls.{enter-done, withdraw-done}
 use Rattle.book.proofs.QuotaRules.{quota-decides, held-replaced}
 use Rattle.book.proofs.Producers.{as-every-record}
 
@@ -36,6 +37,12 @@ old-promises s undamaged none = record {
     branch = ap (λ (o : Own). namesNone (o .setting)) same;
   });
   others-untouched = λ t u call apart. others-untouched s t u call undamaged apart (λ e. apart (sym (reads-own s none u) ∙ e));
+  enter-done = λ t cell done.
+      let it = enter-done s t cell done in
+      (it .gives t (it .own), (it .others t (it .own), it .setting t (it .own)));
+  withdraw-done = λ t name done.
+      let it = withdraw-done s t name done in
+      (it .gives t (it .own), (it .others t (it .own), it .setting t (it .own)));
   quota-decides = λ t cell tenant held. quota-decides s t cell undamaged tenant held (none t);
   held-replaced = λ t cell old tenant held. held-replaced s t cell old undamaged tenant held (none t);
   as-every-record = λ t producer tenant right.
