@@ -548,11 +548,12 @@ lambukir_product_standing(const uint8_t *list, size_t list_length,
 
    A tenant may be opened as a branch of another, its principal: an agent whose
    branch sells from the same list. A branch's own cells are its principal's.
-   It asks for editions and producers, and issues, from that list, at once with
-   what the principal enters and withdraws; with its own Data Server ID and
-   warning days, which it sets as any tenant does. It cannot enter or withdraw
-   (111), and its quota is 0. A principal has no principal itself. It may have
-   any number of branches, and a quota of 0, so that it has nothing to sell.
+   It asks for editions and producers and issues from that list, and sees at
+   once what the principal enters and withdraws. Its Data Server ID and its
+   warning days are its own, and it sets these as any tenant does. It cannot
+   enter or withdraw (111), and its quota is 0. A principal has no principal
+   itself. It may have any number of branches, and a quota of 0, so that it has
+   nothing to sell.
 
    A branch's call changes nobody's cells: whatever its branches do, a principal
    is answered what its own calls alone give. A branch's answers go by its own
