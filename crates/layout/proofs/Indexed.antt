@@ -16,17 +16,17 @@ use Rattle.bytes.proofs.Places.{number-beyond, number-join, number-at-below}
 use Rattle.tenants.specs.Rules.{namesNone}
 use Rattle.tenants.specs.Together.{BookRecord, names, nameOf, noSetting, listOf, ownOf}
 use Rattle.tenants.specs.declared.Setting.{Setting}
-use Rattle.layout.specs.Layout.{settingPlace, recordPlace, settingAt, recordAt, recordCount, bookOf, listIn, ownIn}
+use Rattle.layout.specs.Layout.{recordAtBy, bookOfBy, settingPlace, recordPlace, settingAt, recordAt, recordCount, bookOf, listIn, ownIn}
 use Rattle.layout.proofs.Each.{each-count, each-is}
 use Rattle.layout.proofs.Told.{byte-number}
 
 module _ (s : List ℕ) where
   pub book-count : length (bookOf s .records) ≡ recordCount s
-  unfolding bookOf
+  unfolding bookOfBy
   book-count = each-count (recordAt s) 0 (recordCount s)
 
   pub book-record : (i : ℕ) (none : BookRecord) → i < recordCount s → getD (bookOf s .records) i none ≡ recordAt s i
-  unfolding bookOf
+  unfolding bookOfBy
   book-record i none h = each-is (recordAt s) (recordCount s) i none h
 
   -- of nine bytes the last eight are the name
@@ -40,11 +40,11 @@ module _ (s : List ℕ) where
 
   -- the name of record i is the eight bytes after the tenant's
   pub record-name : (i : ℕ) → Below 256 s → numberAt 8 s (recordPlace i + 1) ≡ nameOf (recordAt s i)
-  unfolding recordAt
+  unfolding recordAtBy
   record-name i below = name-of-nine (recordPlace i) below
 
   pub book-setting : (t : ℕ) (none : Setting) → t < 16 → getD (bookOf s .settings) t none ≡ settingAt s t
-  unfolding bookOf
+  unfolding bookOfBy
   book-setting t none h = each-is (settingAt s) 16 t none h
 
   pub own-setting : (t : ℕ) → t ≤ 15 → ownIn s t .setting ≡ settingAt s t
@@ -57,7 +57,7 @@ module _ (s : List ℕ) where
   list-by t principal is = ap (λ (p : ℕ). cond (eqb p 0) t (p - 1)) is
 
   pub list-beyond : (t : ℕ) → 15 < t → t ≡ listIn s t
-  unfolding bookOf
+  unfolding bookOfBy
   list-beyond t many =
       let past : length (bookOf s .settings) ≤ t = omega (arith, each-count (settingAt s) 0 16) in
       sym (list-by t 0 (ap (λ (x : Setting). x .principal) (List·getD-eq-default (bookOf s .settings) noSetting past)))

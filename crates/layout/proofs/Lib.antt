@@ -1,3 +1,4 @@
+pub mod Versions
 pub mod Each
 pub mod AllFrom
 pub mod Told

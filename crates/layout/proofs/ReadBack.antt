@@ -13,23 +13,27 @@ use Rattle.bytes.proofs.Places.{number-written}
 use Rattle.tenants.specs.declared.Setting.{Setting}
 use Rattle.tenants.specs.Together.{BookRecord, Book}
 use Rattle.layout.specs.Layout.{
+  Version,
+  versionByte,
+  lastSize,
   settingSize,
-  recordSize,
-  bookSize,
+  recordSizeBy,
+  bookSizeBy,
   zeros,
   settingBytes,
-  recordBytes,
+  recordBytesBy,
   allBytes,
-  usedLength,
-  bookBytes,
+  usedLengthBy,
+  bookBytesBy,
   settingPlace,
-  recordPlace,
+  recordPlaceBy,
   settingAt,
-  recordAt,
-  recordCount,
+  recordAtBy,
+  recordCountBy,
   eachFrom,
-  bookOf,
+  bookOfBy,
 }
+use Rattle.layout.proofs.Versions.{place-next, used-below, used-counts}
 use Rattle.layout.proofs.Sizes.{setting-size, record-size, settings-size}
 use Rattle.layout.proofs.Each.{each-back}
 use Rattle.layout.proofs.Fits.{SettingFits, RecordFits, BookFits}
@@ -76,97 +80,106 @@ module _ (x : Setting) (t : ℕ) (front back : List ℕ) (start : length front �
           number-back 1 (x .principal) (settingPlace t + 5) (before-server ++ bytesOf 2 (x .server)) back
           (unfold settingBytes in simp append-assoc) (simp (length-append, digits-length) (omega arith)) (fits .principal)
 
-module _ (r : BookRecord) (i : ℕ) (front back : List ℕ) (start : length front ≡ recordPlace i) (fits : RecordFits r) where
-  record-back : recordAt (front ++ (recordBytes r ++ back)) i ≡ r
-  record-back = unfold recordAt in λ j. record { name = name j; edition = edition j; key1 = key1 j; key2 = key2 j }
-    where
-      s : List ℕ
-      s = front ++ (recordBytes r ++ back)
+module _ (v : Version) where
+  module _ (r : BookRecord) (i : ℕ) (front back : List ℕ) (start : length front ≡ recordPlaceBy v i) (fits : RecordFits v r) where
+    record-back : recordAtBy v (front ++ (recordBytesBy v r ++ back)) i ≡ r
+    record-back = unfold recordAtBy in λ j. record { name = name j; edition = edition j; key1 = key1 j; key2 = key2 j; last = last j }
+      where
+        s : List ℕ
+        s = front ++ (recordBytesBy v r ++ back)
 
-      before-edition : List ℕ
-      before-edition = front ++ bytesOf 9 (r .name)
+        before-edition : List ℕ
+        before-edition = front ++ bytesOf 9 (r .name)
 
-      before-key1 : List ℕ
-      before-key1 = before-edition ++ bytesOf 2 (r .edition)
+        before-key1 : List ℕ
+        before-key1 = before-edition ++ bytesOf 2 (r .edition)
 
-      after-key1 : List ℕ
-      after-key1 = bytesOf 5 (r .key2) ++ (zeros 3 ++ back)
+        after-key2 : List ℕ
+        after-key2 = zeros 3 ++ (bytesOf (lastSize v) (r .last) ++ back)
 
-      after-edition : List ℕ
-      after-edition = bytesOf 5 (r .key1) ++ after-key1
+        after-key1 : List ℕ
+        after-key1 = bytesOf 5 (r .key2) ++ after-key2
 
-      name : numberAt 9 s (recordPlace i) ≡ r .name
-      name =
-          number-back 9 (r .name) (recordPlace i) front (bytesOf 2 (r .edition) ++ after-edition)
-          (unfold recordBytes in simp append-assoc) start (fits .name)
+        after-edition : List ℕ
+        after-edition = bytesOf 5 (r .key1) ++ after-key1
 
-      edition : numberAt 2 s (recordPlace i + 9) ≡ r .edition
-      edition =
-          number-back 2 (r .edition) (recordPlace i + 9) before-edition after-edition
-          (unfold recordBytes in simp append-assoc) (simp (length-append, digits-length) (omega arith)) (fits .edition)
+        name : numberAt 9 s (recordPlaceBy v i) ≡ r .name
+        name =
+            number-back 9 (r .name) (recordPlaceBy v i) front (bytesOf 2 (r .edition) ++ after-edition)
+            (unfold recordBytesBy in simp append-assoc) start (fits .name)
 
-      key1 : numberAt 5 s (recordPlace i + 11) ≡ r .key1
-      key1 =
-          number-back 5 (r .key1) (recordPlace i + 11) before-key1 after-key1
-          (unfold recordBytes in simp append-assoc) (simp (length-append, digits-length) (omega arith)) (fits .key1)
+        edition : numberAt 2 s (recordPlaceBy v i + 9) ≡ r .edition
+        edition =
+            number-back 2 (r .edition) (recordPlaceBy v i + 9) before-edition after-edition
+            (unfold recordBytesBy in simp append-assoc) (simp (length-append, digits-length) (omega arith)) (fits .edition)
 
-      key2 : numberAt 5 s (recordPlace i + 16) ≡ r .key2
-      key2 =
-          number-back 5 (r .key2) (recordPlace i + 16) (before-key1 ++ bytesOf 5 (r .key1)) (zeros 3 ++ back)
-          (unfold recordBytes in simp append-assoc) (simp (length-append, digits-length) (omega arith)) (fits .key2)
+        key1 : numberAt 5 s (recordPlaceBy v i + 11) ≡ r .key1
+        key1 =
+            number-back 5 (r .key1) (recordPlaceBy v i + 11) before-key1 after-key1
+            (unfold recordBytesBy in simp append-assoc) (simp (length-append, digits-length) (omega arith)) (fits .key1)
 
--- version and used length
-abbrev pub start : ℕ → List ℕ
-start n = 1 ∷ bytesOf 4 (usedLength n)
+        key2 : numberAt 5 s (recordPlaceBy v i + 16) ≡ r .key2
+        key2 =
+            number-back 5 (r .key2) (recordPlaceBy v i + 16) (before-key1 ++ bytesOf 5 (r .key1)) after-key2
+            (unfold recordBytesBy in simp append-assoc) (simp (length-append, digits-length) (omega arith)) (fits .key2)
 
--- what stands before the records
-abbrev pub head : ℕ → List Setting → List ℕ
-head n settings = start n ++ allBytes settingBytes settings
+        last : numberAt (lastSize v) s (recordPlaceBy v i + 24) ≡ r .last
+        last =
+            number-back (lastSize v) (r .last) (recordPlaceBy v i + 24) (before-key1 ++ (bytesOf 5 (r .key1) ++ (bytesOf 5 (r .key2) ++ zeros 3))) back
+            (unfold recordBytesBy in simp append-assoc) (simp (length-append, digits-length) (omega arith)) (fits .last)
 
--- the zeros past the used length
-abbrev pub rest : ℕ → List ℕ
-rest n = zeros (bookSize - usedLength n)
+  -- version and used length
+  abbrev pub start : ℕ → List ℕ
+  start n = versionByte v ∷ bytesOf 4 (usedLengthBy v n)
 
-pub head-size : (n : ℕ) (settings : List Setting) → length settings ≡ 16 → length (head n settings) ≡ recordPlace 0
-head-size n settings sixteen = simp (length-append, digits-length, settings-size) (omega arith)
+  -- what stands before the records
+  abbrev pub head : ℕ → List Setting → List ℕ
+  head n settings = start n ++ allBytes settingBytes settings
 
--- the book as its head, its records and zeros
-pub bytes-parts : (book : Book)
-    → bookBytes book ≡ head (length (book .records)) (book .settings) ++ (allBytes recordBytes (book .records) ++ rest (length (book .records)))
-unfolding bookBytes
-bytes-parts book = simp append-assoc
+  -- the zeros past the used length
+  abbrev pub rest : ℕ → List ℕ
+  rest n = zeros (bookSizeBy v - usedLengthBy v n)
 
-module _ (book : Book) (fits : BookFits book) where
-  abbrev n : ℕ
-  n = length (book .records)
+  pub head-size : (n : ℕ) (settings : List Setting) → length settings ≡ 16 → length (head n settings) ≡ recordPlaceBy v 0
+  head-size n settings sixteen = simp (length-append, digits-length, settings-size) (omega arith)
 
-  abbrev after : List ℕ
-  after = allBytes recordBytes (book .records) ++ rest n
+  -- the book as its head, its records and zeros
+  pub bytes-parts : (book : Book)
+      → bookBytesBy v book ≡ head (length (book .records)) (book .settings) ++ (allBytes (recordBytesBy v) (book .records) ++ rest (length (book .records)))
+  unfolding bookBytesBy
+  bytes-parts book = simp append-assoc
 
-  pub used-back : numberAt 4 (bookBytes book) 1 ≡ usedLength n
-  unfolding bookBytes
-  used-back = number-back 4 (usedLength n) 1 (1 ∷ []) (allBytes settingBytes (book .settings) ++ after) refl refl (omega (arith, fits .few))
+  module _ (book : Book) (fits : BookFits v book) where
+    abbrev n : ℕ
+    n = length (book .records)
 
-  pub count-back : recordCount (bookBytes book) ≡ n
-  unfolding recordCount
-  count-back = rw used-back (omega arith)
+    abbrev after : List ℕ
+    after = allBytes (recordBytesBy v) (book .records) ++ rest n
 
-  all-settings : eachFrom (settingAt (bookBytes book)) 0 16 ≡ book .settings
-  unfolding bookBytes
-  all-settings =
-      ap (eachFrom (settingAt (bookBytes book)) 0) (sym (fits .sixteen))
-      ∙ each-back settingSize settingBytes settingPlace (λ t. omega arith) setting-size SettingFits settingAt setting-back
-      (book .settings) 0 (start n) after (simp digits-length) (fits .settings)
+    pub used-back : numberAt 4 (bookBytesBy v book) 1 ≡ usedLengthBy v n
+    unfolding bookBytesBy
+    used-back = number-back 4 (usedLengthBy v n) 1 (versionByte v ∷ []) (allBytes settingBytes (book .settings) ++ after) refl refl (used-below v n (fits .few))
 
-  all-records : eachFrom (recordAt (bookBytes book)) 0 n ≡ book .records
-  all-records =
-      ap (λ (s : List ℕ). eachFrom (recordAt s) 0 n) (bytes-parts book)
-      ∙ each-back recordSize recordBytes recordPlace (λ i. omega arith) record-size RecordFits recordAt record-back
-      (book .records) 0 (head n (book .settings)) (rest n) (head-size n (book .settings) (fits .sixteen)) (fits .records)
+    pub count-back : recordCountBy v (bookBytesBy v book) ≡ n
+    unfolding recordCountBy
+    count-back = rw used-back (used-counts v n)
 
-  pub book-back : bookOf (bookBytes book) ≡ book
-  unfolding bookOf
-  book-back =
-      ap₂ (λ (settings : List Setting) (records : List BookRecord). record { settings = settings; records = records })
-      all-settings
-      (ap (eachFrom (recordAt (bookBytes book)) 0) count-back ∙ all-records)
+    all-settings : eachFrom (settingAt (bookBytesBy v book)) 0 16 ≡ book .settings
+    unfolding bookBytesBy
+    all-settings =
+        ap (eachFrom (settingAt (bookBytesBy v book)) 0) (sym (fits .sixteen))
+        ∙ each-back settingSize settingBytes settingPlace (λ t. omega arith) setting-size SettingFits settingAt setting-back
+        (book .settings) 0 (start n) after (simp digits-length) (fits .settings)
+
+    all-records : eachFrom (recordAtBy v (bookBytesBy v book)) 0 n ≡ book .records
+    all-records =
+        ap (λ (s : List ℕ). eachFrom (recordAtBy v s) 0 n) (bytes-parts book)
+        ∙ each-back (recordSizeBy v) (recordBytesBy v) (recordPlaceBy v) (place-next v) (record-size v) (RecordFits v) (recordAtBy v) record-back
+        (book .records) 0 (head n (book .settings)) (rest n) (head-size n (book .settings) (fits .sixteen)) (fits .records)
+
+    pub book-back : bookOfBy v (bookBytesBy v book) ≡ book
+    unfolding bookOfBy
+    book-back =
+        ap₂ (λ (settings : List Setting) (records : List BookRecord). record { settings = settings; records = records })
+        all-settings
+        (ap (eachFrom (recordAtBy v (bookBytesBy v book)) 0) count-back ∙ all-records)

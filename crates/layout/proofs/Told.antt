@@ -11,7 +11,7 @@ use Rattle.bytes.specs.Places.{numberAt}
 use Rattle.bytes.proofs.Every.{either}
 use Rattle.bytes.proofs.Places.{number-one, number-beyond}
 use Rattle.tenants.specs.declared.Setting.{Setting}
-use Rattle.layout.specs.Layout.{settingPlace, settingAt, recordCount}
+use Rattle.layout.specs.Layout.{settingPlace, settingAt, recordCountBy, recordCount}
 
 -- the number of one byte, which is 0 beyond the end
 pub byte-number : (s : List ℕ) (at : ℕ) → numberAt 1 s at ≡ getD s at 0
@@ -23,12 +23,12 @@ byte-number s at =
 
 module _ (s : List ℕ) (used : ℕ) (is : used ≡ numberAt 4 s 1) where
   pub count-none : used < 101 → 0 ≡ recordCount s
-  unfolding recordCount
+  unfolding recordCountBy
   count-none low = let none : numberAt 4 s 1 - 101 ≡ 0 = omega arith in rw none refl
 
-  pub count-told : (used - 101) / 24 ≡ recordCount s
-  unfolding recordCount
-  count-told = ap (λ (n : ℕ). (n - 101) / 24) is
+  pub count-told : (used - 101) / 28 ≡ recordCount s
+  unfolding recordCountBy
+  count-told = ap (λ (n : ℕ). (n - 101) / 28) is
 
 pub setting-told : (s : List ℕ) (t quota days server principal : ℕ) → quota ≡ numberAt 2 s (settingPlace t) → days ≡ getD s (settingPlace t + 2) 0
     → server ≡ numberAt 2 s (settingPlace t + 3) → principal ≡ getD s (settingPlace t + 5) 0

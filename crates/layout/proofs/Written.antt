@@ -10,7 +10,7 @@ use Rattle.bytes.specs.Numbers.{digits, Below, bytesOf}
 use Rattle.bytes.specs.Places.{numberAt}
 use Rattle.bytes.proofs.Places.{bytes-at}
 use Rattle.text.specs.Texts.{part}
-use Rattle.layout.specs.Layout.{zeros, settingBytes, recordBytes, settingPlace, recordPlace, settingAt, recordAt}
+use Rattle.layout.specs.Layout.{Version, lastSize, recordSizeBy, zeros, settingBytes, recordBytesBy, settingPlace, recordPlaceBy, settingAt, recordAtBy}
 use Rattle.layout.proofs.Each.{meet}
 
 -- n zeros stand at a place
@@ -37,18 +37,22 @@ module _ (s : List ℕ) (below : Below 256 s) where
       ∙ ap (λ (l : List ℕ). part 2 s at ++ l) (meet 1 3 s (at + 2) (at + 3) (omega arith))
       ∙ meet 2 4 s at (at + 2) (omega arith))
 
-  pub record-written : (i : ℕ) → recordPlace i + 24 ≤ length s → numberAt 3 s (recordPlace i + 21) ≡ 0
-      → recordBytes (recordAt s i) ≡ part 24 s (recordPlace i)
-  unfolding recordBytes recordAt digits
-  record-written i within zero-there =
-      let at = recordPlace i in
-      let last : zeros 3 ≡ part 3 s (at + 21) = ap (bytesOf 3) (sym zero-there) ∙ bytes-at 3 s (at + 21) below (omega arith) in
-      ap₂ (λ (a b : List ℕ). a ++ (b ++ (bytesOf 5 (recordAt s i .key1) ++ (bytesOf 5 (recordAt s i .key2) ++ zeros 3))))
-      (bytes-at 9 s at below (omega arith)) (bytes-at 2 s (at + 9) below (omega arith))
-      ∙ ap₂ (λ (a b : List ℕ). part 9 s at ++ (part 2 s (at + 9) ++ (a ++ (b ++ zeros 3))))
-      (bytes-at 5 s (at + 11) below (omega arith)) (bytes-at 5 s (at + 16) below (omega arith))
-      ∙ ap (λ (l : List ℕ). part 9 s at ++ (part 2 s (at + 9) ++ (part 5 s (at + 11) ++ (part 5 s (at + 16) ++ l)))) last
-      ∙ ap (λ (l : List ℕ). part 9 s at ++ (part 2 s (at + 9) ++ (part 5 s (at + 11) ++ l))) (meet 5 3 s (at + 16) (at + 21) (omega arith))
-      ∙ ap (λ (l : List ℕ). part 9 s at ++ (part 2 s (at + 9) ++ l)) (meet 5 8 s (at + 11) (at + 16) (omega arith))
-      ∙ ap (λ (l : List ℕ). part 9 s at ++ l) (meet 2 13 s (at + 9) (at + 11) (omega arith))
-      ∙ meet 9 15 s at (at + 9) (omega arith)
+  pub record-written : (v : Version) (i : ℕ) → recordPlaceBy v i + recordSizeBy v ≤ length s → numberAt 3 s (recordPlaceBy v i + 21) ≡ 0
+      → recordBytesBy v (recordAtBy v s i) ≡ part (recordSizeBy v) s (recordPlaceBy v i)
+  unfolding recordBytesBy recordAtBy digits
+  record-written v i within zero-there =
+      let at = recordPlaceBy v i in
+      let l = lastSize v in
+      let spare : zeros 3 ≡ part 3 s (at + 21) = ap (bytesOf 3) (sym zero-there) ∙ bytes-at 3 s (at + 21) below (omega arith) in
+      let from-spare : zeros 3 ++ bytesOf l (numberAt l s (at + 24)) ≡ part (3 + l) s (at + 21) =
+      ap₂ (λ (a b : List ℕ). a ++ b) spare (bytes-at l s (at + 24) below (omega arith)) ∙ meet 3 l s (at + 21) (at + 24) (omega arith) in
+      let from-key2 : bytesOf 5 (numberAt 5 s (at + 16)) ++ (zeros 3 ++ bytesOf l (numberAt l s (at + 24))) ≡ part (5 + (3 + l)) s (at + 16) =
+      ap₂ (λ (a b : List ℕ). a ++ b) (bytes-at 5 s (at + 16) below (omega arith)) from-spare ∙ meet 5 (3 + l) s (at + 16) (at + 21) (omega arith) in
+      let size : 9 + (2 + (5 + (5 + (3 + l)))) ≡ recordSizeBy v = omega arith in
+      ap₂ (λ (a b : List ℕ). a ++ b) (bytes-at 9 s at below (omega arith))
+      (ap₂ (λ (a b : List ℕ). a ++ b) (bytes-at 2 s (at + 9) below (omega arith))
+      (ap₂ (λ (a b : List ℕ). a ++ b) (bytes-at 5 s (at + 11) below (omega arith)) from-key2
+      ∙ meet 5 (5 + (3 + l)) s (at + 11) (at + 16) (omega arith))
+      ∙ meet 2 (5 + (5 + (3 + l))) s (at + 9) (at + 11) (omega arith))
+      ∙ meet 9 (2 + (5 + (5 + (3 + l)))) s at (at + 9) (omega arith)
+      ∙ ap (λ (k : ℕ). part k s at) size

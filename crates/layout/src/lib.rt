@@ -7,13 +7,13 @@ use tenants::Setting;
 use text::reading::byte_at;
 
 // How many bytes a book has.
-pub const BOOK_SIZE: usize = 12389;
+pub const BOOK_SIZE: usize = 14437;
 
 // How many bytes a setting has.
 pub const SETTING_SIZE: usize = 6;
 
 // How many bytes a record has.
-pub const RECORD_SIZE: usize = 24;
+pub const RECORD_SIZE: usize = 28;
 
 // Where the settings begin.
 pub const SETTINGS_PLACE: usize = 5;

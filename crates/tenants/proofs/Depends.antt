@@ -18,7 +18,7 @@ use Rattle.cell_permit.specs.CellPermit.{shipWords, lineOf, lineEnd}
 use Rattle.tenants.specs.declared.Held.{Held}
 use Rattle.tenants.specs.declared.Setting.{Setting}
 use Rattle.tenants.specs.Cells.{cellOf}
-use Rattle.tenants.specs.Rules.{Own, isTenant, namesNone, entering, withdrawing, settingDays, asking, askingProducer, lineFor, issuing, checking}
+use Rattle.tenants.specs.Rules.{Own, isTenant, namesNone, entering, withdrawing, settingDays, asking, askingProducer, lineFor, issuing, checking, inTime}
 use Rattle.tenants.specs.Calls.{Call, enter, withdraw, setDays, askEdition, askProducer, issue, check, written, answerOf}
 
 -- a line has the Data Server ID, and nothing else of a setting
@@ -27,7 +27,7 @@ same-line : (ship : UserPermit) (cell : Option Held) (setting other : Setting) (
 same-line (user-permit.Refused n) cell setting other expiry level same = refl
 same-line (user-permit.Ship hw m) none setting other expiry level same = refl
 same-line (user-permit.Ship hw m) (some cell) setting other expiry level same =
-    ap (λ (server : ℕ). text (lineOf (shipWords hw) (record {
+    ap (λ (server : ℕ). demand (inTime cell expiry) (refusal 112) (text (lineOf (shipWords hw) (record {
       name = cell .name;
       key1 = cell .key1;
       key2 = cell .key2;
@@ -35,7 +35,7 @@ same-line (user-permit.Ship hw m) (some cell) setting other expiry level same =
       level = level;
       edition = cell .edition;
       server = server;
-    }) ++ lineEnd))
+    }) ++ lineEnd)))
     same
 
 module _ (t : ℕ) (own other : Own) (quota : own .setting .quota ≡ other .setting .quota) (days : own .setting .days ≡ other .setting .days)

@@ -1,20 +1,21 @@
 -- What is tested of a tenant, warning days, a principal, a name, a cell and a record, as bounds; and back.
 -- Assumes nothing.
-use mathlib.Core.Path.{_≡_, sym}
+use mathlib.Core.Path.{_≡_, refl, sym}
 use mathlib.Core.Bool.{true, false}
 use mathlib.Core.List.{List}
 use Prim.Native.Nat.{ℕ, _+_, _-_, _*_, _/_, _%_, _^_, _≤_, _<_}
 use native.Mathlib.Omega.{arith}
 use borrow.Author.Tests.{leb-true, le-leb, lt-leb, ltb-true, lt-ltb, eqb-true}
 use lib.Dec.{leb, eqb}
-use Rattle.bytes.proofs.Every.{and-first, and-second, either, same-tests}
+use Rattle.bytes.proofs.Every.{and-first, and-second, either}
 use Rattle.text.specs.Characters.{isNameCharacter}
+use Rattle.dates.specs.Calendar.{year, within, isDate}
 use Rattle.dates.specs.Notice.{isDays}
 use Rattle.forms.specs.Identifiers.{isCellName, isCellKey}
 use Rattle.forms.proofs.Fits.{text-fits}
 use Rattle.tenants.specs.declared.Held.{Held}
 use Rattle.tenants.specs.declared.Setting.{Setting}
-use Rattle.tenants.specs.Rules.{isTenant, isHeld, namesNone}
+use Rattle.tenants.specs.Rules.{isTenant, isLast, isHeld, namesNone}
 use Rattle.tenants.specs.Together.{inBook, cellIn, BookRecord, names, tenantOf, isPrincipal, isRecord}
 
 module _ (t : ℕ) where
@@ -52,6 +53,7 @@ pub record Fit (cell : Held) : Type 0 where
   pub high : cell .edition ≤ 999
   pub key1 : cell .key1 < 256 ^ 5
   pub key2 : cell .key2 < 256 ^ 5
+  pub last : isLast (cell .last) ≡ true
 
 pub held-fits : (cell : Held) → isHeld cell ≡ true → Fit cell
 unfolding isHeld
@@ -61,6 +63,7 @@ held-fits cell held = record {
   high = leb-true (cell .edition) 999 (search (and-first, and-second));
   key1 = ltb-true (cell .key1) (256 ^ 5) (search (and-first, and-second));
   key2 = ltb-true (cell .key2) (256 ^ 5) (search (and-first, and-second));
+  last = search (and-first, and-second);
 }
 
 pub held-below : (cell : Held) → isHeld cell ≡ true → cell .name < names
@@ -70,15 +73,27 @@ held-below cell held = name-below (cell .name) (held-fits cell held .name)
 pub not-fit : (cell : Held) → (Fit cell → ⊥) → false ≡ isHeld cell
 not-fit cell wrong = either (isHeld cell) (λ held. absurd (wrong (held-fits cell held))) (λ bad. sym bad)
 
--- the second key decides where all else fits
-pub by-second-key : (cell : Held) → isCellName (cell .name) ≡ true → 1 ≤ cell .edition → cell .edition ≤ 999
-    → cell .key1 ≤ 0xFF_FFFF_FFFF → leb (cell .key2) 0xFF_FFFF_FFFF ≡ isHeld cell
+-- the last expiry decides where all else fits
+pub by-last : (cell : Held) → isCellName (cell .name) ≡ true → 1 ≤ cell .edition → cell .edition ≤ 999
+    → cell .key1 ≤ 0xFF_FFFF_FFFF → cell .key2 ≤ 0xFF_FFFF_FFFF → isLast (cell .last) ≡ isHeld cell
 unfolding isHeld
-by-second-key cell name low high one =
-    rw (name, le-leb 1 (cell .edition) low, le-leb (cell .edition) 999 high, lt-ltb (cell .key1) (256 ^ 5) (omega arith))
-    (same-tests (leb (cell .key2) 0xFF_FFFF_FFFF) (isCellKey (cell .key2))
-    (λ h. lt-ltb (cell .key2) (256 ^ 5) (omega (arith, leb-true (cell .key2) 0xFF_FFFF_FFFF h)))
-    (λ h. le-leb (cell .key2) 0xFF_FFFF_FFFF (omega (arith, ltb-true (cell .key2) (256 ^ 5) h))))
+by-last cell name low high one two =
+    rw (
+      name,
+      le-leb 1 (cell .edition) low,
+      le-leb (cell .edition) 999 high,
+      lt-ltb (cell .key1) (256 ^ 5) (omega arith),
+      lt-ltb (cell .key2) (256 ^ 5) (omega arith),
+    )
+    refl
+
+-- a last expiry has four bytes
+pub last-below : (last : ℕ) → isLast last ≡ true → last < 256 ^ 4
+unfolding isLast isDate year within
+last-below last right =
+    either (eqb last 0)
+    (λ none. omega (arith, eqb-true last 0 none))
+    (λ some. omega (arith, leb-true (last / 10000) 2999 (search (and-first, and-second, rw some at right))))
 
 module _ (r : BookRecord) (is : isRecord r ≡ true) where
   pub record-below : tenantOf r < 16

@@ -6,3 +6,4 @@ pub mod Branches
 pub mod Together
 pub mod House
 pub mod OneList
+pub mod Version1

@@ -52,9 +52,15 @@ changeNumber (refuses n) = n
 unfoldable pub isTenant : ℕ → Bool
 isTenant t = leb t 15
 
--- a cell's name, edition (1 to 999) and keys are in their ranges and alphabets
+-- a last expiry: 0 for none, or a date
+unfoldable pub isLast : ℕ → Bool
+isLast last = eqb last 0 || isDate last
+
+-- a cell's name, edition (1 to 999), keys and last expiry are in their ranges and alphabets
 unfoldable pub isHeld : Held → Bool
-isHeld cell = isCellName (cell .name) && (leb 1 (cell .edition) && leb (cell .edition) 999) && isCellKey (cell .key1) && isCellKey (cell .key2)
+isHeld cell =
+    isCellName (cell .name) && (leb 1 (cell .edition) && leb (cell .edition) 999) && isCellKey (cell .key1) && isCellKey (cell .key2)
+    && isLast (cell .last)
 
 -- no principal is named, so it is no branch
 unfoldable pub namesNone : Setting → Bool
@@ -121,11 +127,17 @@ lineCell setting cell expiry level = record {
   server = setting .server;
 }
 
--- the line for the ship of a user permit: 106, 17, 107 or 18 as the permit reads, then 104 where the cell is not held
+-- a cell may be sold for an expiry: it has no last one, or this is not later
+unfoldable pub inTime : Held → ℕ → Bool
+inTime cell expiry = eqb (cell .last) 0 || leb expiry (cell .last)
+
+-- the line for the ship of a user permit: 106, 17, 107 or 18 as the permit reads, then 104 where the cell is not held, then 112 where it is too late
 abbrev pub lineFor : UserPermit → Option Held → Setting → ℕ → ℕ → Output
 lineFor (user-permit.Refused n) cell setting expiry level = refusal n
 lineFor (user-permit.Ship hw m) none setting expiry level = refusal 104
-lineFor (user-permit.Ship hw m) (some cell) setting expiry level = text (lineOf (shipWords hw) (lineCell setting cell expiry level) ++ lineEnd)
+lineFor (user-permit.Ship hw m) (some cell) setting expiry level =
+    demand (inTime cell expiry) (refusal 112)
+    (text (lineOf (shipWords hw) (lineCell setting cell expiry level) ++ lineEnd))
 
 -- issue a line, from cell name, expiry, service level and user permit, into an output of so many bytes
 unfoldable pub issuing : ℕ → List ℕ → ℕ → ℕ → ℕ → List ℕ → ℕ → Own → Output

@@ -41,9 +41,9 @@ tenantOf r = full r / names
 abbrev pub nameOf : BookRecord → ℕ
 nameOf r = full r % names
 
--- the same edition and keys under another name
+-- the same edition, keys and last expiry under another name
 abbrev pub named : ℕ → Held → Held
-named name cell = record { name = name; edition = cell .edition; key1 = cell .key1; key2 = cell .key2 }
+named name cell = record { name = name; edition = cell .edition; key1 = cell .key1; key2 = cell .key2; last = cell .last }
 
 -- the record of tenant t's cell
 abbrev pub inBook : ℕ → Held → BookRecord
@@ -107,7 +107,7 @@ unfoldable pub quotaSum : List Setting → ℕ
 quotaSum [] = 0
 quotaSum (s ∷ settings) = s .quota + quotaSum settings
 
--- tenant 0 to 15, and a cell with its name, edition and keys
+-- tenant 0 to 15, and a cell with its name, edition, keys and last expiry
 unfoldable pub isRecord : BookRecord → Bool
 isRecord r = isTenant (tenantOf r) && isHeld (cellIn r)
 
