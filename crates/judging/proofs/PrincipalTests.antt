@@ -12,7 +12,7 @@ use Rattle.tenants.specs.declared.Setting.{Setting}
 use Rattle.tenants.specs.Rules.{namesNone}
 use Rattle.tenants.specs.Together.{noSetting, arePrincipals}
 use Rattle.tenants.proofs.Principals.{names-none, names-nobody, names-with-quota, names-tenant}
-use Rattle.layout.specs.Layout.{settingPlace, settingAt, eachFrom, bookOf}
+use Rattle.layout.specs.Layout.{bookOfBy, settingPlace, settingAt, eachFrom, bookOf}
 use Rattle.layout.proofs.AllFrom.{principals-each}
 use Rattle.layout.proofs.Told.{byte-number}
 use Rattle.layout.proofs.Indexed.{book-setting}
@@ -56,5 +56,5 @@ module _ (s : List ℕ) where
             ∙ ap (λ (p : ℕ). eqb p 0) its)
 
 pub principals-tested : (s : List ℕ) → arePrincipals (eachFrom (settingAt s) 0 16) 0 (eachFrom (settingAt s) 0 16) ≡ principalsTest s
-unfolding principalsTest bookOf
+unfolding principalsTest bookOfBy
 principals-tested s = principals-each (eachFrom (settingAt s) 0 16) (settingAt s) 0 16

@@ -16,7 +16,7 @@ use Rattle.text.specs.Texts.{sameText}
 use Rattle.text.proofs.SameTexts.{same-refl}
 use Rattle.tenants.specs.declared.Setting.{Setting}
 use Rattle.tenants.specs.Together.{BookRecord, areSettings, arePrincipals, quotaSum, areRecords, withinQuotas, isGood}
-use Rattle.layout.specs.Layout.{recordsPlace, bookSize, usedLength, recordCount, recordPlace, settingAt, recordAt, eachFrom, bookOf, isBook, allFrom}
+use Rattle.layout.specs.Layout.{two, bookOfBy, isBookBy, recordsPlace, bookSize, usedLength, recordCount, recordPlace, settingAt, recordAt, eachFrom, bookOf, isBook, allFrom}
 use Rattle.judging.specs.Starts.{startOf, firstIn}
 use Rattle.judging.specs.Judging.{isZero, settingsTest, principalsTest, frameTest, partsFrom}
 use Rattle.judging.specs.declared.Part.the-variants.{Ends}
@@ -33,7 +33,7 @@ use Rattle.judging.proofs.AllParts.{PartsSay, parts-say, parts-start}
 -- what the tests of all but the records find, in their order
 pub record Framed (s : List ℕ) : Type 0 where
   pub size : length s ≡ bookSize
-  pub version : getD s 0 0 ≡ 1
+  pub version : getD s 0 0 ≡ 2
   pub few : recordCount s ≤ 512
   pub used : numberAt 4 s 1 ≡ usedLength (recordCount s)
   pub settings : settingsTest s ≡ true
@@ -45,7 +45,7 @@ module _ (s : List ℕ) where
   unfolding frameTest
   frame-facts all =
       let a = eqb (length s) bookSize in
-      let b = eqb (getD s 0 0) 1 in
+      let b = eqb (getD s 0 0) 2 in
       let c = leb (recordCount s) 512 in
       let d = eqb (numberAt 4 s 1) (usedLength (recordCount s)) in
       let e = settingsTest s in
@@ -55,10 +55,10 @@ module _ (s : List ℕ) where
       let five = and-first (a && b && c && d && e) p six in
       let four = and-first (a && b && c && d) e five in
       let three = and-first (a && b && c) d four in
-      let two = and-first (a && b) c three in
+      let both = and-first (a && b) c three in
       record {
-        size = eqb-true (length s) bookSize (and-first a b two);
-        version = eqb-true (getD s 0 0) 1 (and-second a b two);
+        size = eqb-true (length s) bookSize (and-first a b both);
+        version = eqb-true (getD s 0 0) 2 (and-second a b both);
         few = leb-true (recordCount s) 512 (and-second (a && b) c three);
         used = eqb-true (numberAt 4 s 1) (usedLength (recordCount s)) (and-second (a && b && c) d four);
         settings = and-second (a && b && c && d) e five;
@@ -71,7 +71,7 @@ module _ (s : List ℕ) where
   framed-test framed =
       rw (
         eq-eqb (length s) bookSize (framed .size),
-        eq-eqb (getD s 0 0) 1 (framed .version),
+        eq-eqb (getD s 0 0) 2 (framed .version),
         le-leb (recordCount s) 512 (framed .few),
         eq-eqb (numberAt 4 s 1) (usedLength (recordCount s)) (framed .used),
         framed .settings,
@@ -108,7 +108,7 @@ module _ (s : List ℕ) (below : Below 256 s) where
 
   -- an undamaged book has the frame, and the parts of the tenants below one end where its records start
   module _ (undamaged : isBook s ≡ true) where
-    frame : Frame s
+    frame : Frame two s
     frame = book-frame s undamaged
 
     within : usedLength n ≤ length s
@@ -122,7 +122,7 @@ module _ (s : List ℕ) (below : Below 256 s) where
       quotas : withinQuotas 0 settings records ≡ true
 
     said : Said
-    unfolding isGood bookOf
+    unfolding isGood bookOfBy
     said =
         let good = undamaged-says s undamaged .0 in
         let a = eqb (length settings) 16 in
@@ -155,11 +155,11 @@ module _ (s : List ℕ) (below : Below 256 s) where
     }
 
     pub book-right : areRecords (bookOf s .records) ≡ true
-    unfolding bookOf
+    unfolding bookOfBy
     book-right = said .records-right
 
     pub book-parts : (t : ℕ) → t ≤ 16 → partsFrom s (usedLength n) 0 recordsPlace t ≡ Ends (recordPlace (firstIn s t))
-    unfolding bookOf
+    unfolding bookOfBy
     book-parts t low =
         let same = whole within in
         parts-start s below n within (ap areRecords same ∙ said .records-right) (frame .records)
@@ -179,7 +179,7 @@ module _ (s : List ℕ) (below : Below 256 s) where
         settings-tested s (omega (arith, framed .size))
         ∙ and-first (allFrom (testAt s) 0 16) (leb (quotaSum settings) 512) (unfold settingsTest in framed .settings)
 
-    so-framed : Frame s
+    so-framed : Frame two s
     so-framed = record {
       size = framed .size;
       version = framed .version;
@@ -190,7 +190,7 @@ module _ (s : List ℕ) (below : Below 256 s) where
     }
 
     good : isGood (bookOf s) ≡ true
-    unfolding isGood bookOf
+    unfolding isGood bookOfBy
     good =
         let same = whole inside in
         rw (
@@ -204,5 +204,5 @@ module _ (s : List ℕ) (below : Below 256 s) where
         (kept-within s records 0 16 (λ u low high. rw same at (says .kept u low (omega arith))))
 
     pub tested-book : isBook s ≡ true
-    unfolding isBook
-    tested-book = rw (eq-eqb (length s) bookSize (framed .size), ap (sameText s) (frame-written s below so-framed) ∙ same-refl s) good
+    unfolding isBookBy
+    tested-book = rw (eq-eqb (length s) bookSize (framed .size), ap (sameText s) (frame-written two s below so-framed) ∙ same-refl s) good

@@ -9,6 +9,7 @@ use Rattle.bytes.specs.Places.{numberAt}
 use Rattle.text.specs.Texts.{part}
 use Rattle.dates.specs.Notice.{isDays}
 use Rattle.forms.specs.Identifiers.{isCellName, isServerId}
+use Rattle.tenants.specs.Rules.{isLast}
 use Rattle.tenants.specs.Together.{isPrincipal, quotaSum}
 use Rattle.layout.specs.Layout.{settingSize, settingPlace, recordSize, bookSize, usedLength, settingAt, recordCount, eachFrom, allFrom, bookOf}
 use Rattle.judging.specs.declared.Part.{Part}
@@ -38,19 +39,24 @@ principalTest s t = isPrincipal (bookOf s .settings) t (settingAt s t)
 unfoldable pub principalsTest : List ℕ → Bool
 principalsTest s = allFrom (principalTest s) 0 16
 
--- all but the records: the length, version 1, a used length for at most 512 records, the settings, the principals, zeros past the used length
+-- all but the records: the length, version 2, a used length for at most 512 records, the settings, the principals, zeros past the used length
 unfoldable pub frameTest : List ℕ → Bool
 frameTest s =
-    eqb (length s) bookSize && eqb (getD s 0 0) 1 && leb (recordCount s) 512 && eqb (numberAt 4 s 1) (usedLength (recordCount s))
+    eqb (length s) bookSize && eqb (getD s 0 0) 2 && leb (recordCount s) 512 && eqb (numberAt 4 s 1) (usedLength (recordCount s))
     && settingsTest s && principalsTest s && allOf isZero (drop (usedLength (recordCount s)) s)
 
--- the bytes of one cell, after a record of this name: a higher name that is a cell name, and an edition
+-- the bytes of one cell, after a record of this name: a higher name that is a cell name, an edition, and a last expiry
 unfoldable pub cellTest : List ℕ → ℕ → Bool
-cellTest p name = ltb name (numberAt 8 p 1) && isCellName (numberAt 8 p 1) && (leb 1 (numberAt 2 p 9) && leb (numberAt 2 p 9) 999)
+cellTest p name =
+    ltb name (numberAt 8 p 1) && isCellName (numberAt 8 p 1) && (leb 1 (numberAt 2 p 9) && leb (numberAt 2 p 9) 999) && isLast (numberAt 4 p 24)
 
--- the last four bytes of a record, the last first: below 256 exactly where the three that must be zero are
+-- the four bytes before a last expiry, the last first: below 256 exactly where the three that must be zero are
 unfoldable pub spareOf : List ℕ → ℕ
 spareOf p = getD p 20 0 + getD p 21 0 * 256 + getD p 22 0 * 65536 + getD p 23 0 * 16777216
+
+-- a last expiry that needs no judging: this one where there is one, and else the one before
+abbrev pub lastKnown : ℕ → ℕ → ℕ
+lastKnown last known = cond (eqb last 0) known last
 
 -- both: the cell is right, and so are its zeros
 abbrev pub recordTest : List ℕ → ℕ → Bool

@@ -1,13 +1,14 @@
 // Judging a book: whether its bytes are undamaged, and where the records stand that a tenant reads.
 ghost use mathlib.Core.Path.{_≡_};
-ghost use mathlib.Core.Bool.{cond};
+ghost use mathlib.Core.Bool.{true, cond};
 ghost use Prim.Native.Nat.{_-_, _/_, _%_, _≤_, _<_};
 ghost use lib.Dec.{leb};
 ghost use lib.ListN.{length};
 ghost use Rattle.bytes.specs.Every.{allOf};
+ghost use Rattle.tenants.specs.Rules.{isLast};
 ghost use Rattle.layout.specs.Layout.{recordsPlace, recordSize, bookSize, isBook};
 ghost use Rattle.judging.specs.Starts.{judgedUnder, judged};
-ghost use Rattle.judging.specs.Judging.{isZero, settingTest, settingsTest, principalTest, principalsTest, frameTest, cellTest, spareOf, partFrom, partsFrom, upTo16};
+ghost use Rattle.judging.specs.Judging.{isZero, settingTest, settingsTest, principalTest, principalsTest, frameTest, cellTest, spareOf, lastKnown, partFrom, partsFrom, upTo16};
 ghost use Rattle.judging.specs.declared.Part.the-variants.{Ends, Wrong};
 use bytes::numbers::number16;
 use bytes::numbers::number32;
@@ -22,6 +23,7 @@ use layout::SETTING_SIZE;
 use layout::SETTINGS_PLACE;
 use layout::count;
 use layout::list_of;
+use tenants::is_last;
 use text::reading::byte_at;
 
 // What judging a book for a tenant finds: from which record on, and up to which, those stand that it reads; or that the book is damaged.
@@ -112,7 +114,7 @@ fn is_frame(book: &[u8]) -> bool
     if book.len() != BOOK_SIZE {
         return false;
     }
-    if book[0] != 1 {
+    if book[0] != 2 {
         return false;
     }
     let n = count(book);
@@ -131,12 +133,14 @@ fn is_frame(book: &[u8]) -> bool
     is_zero(&book[RECORDS_PLACE + RECORD_SIZE * n..])
 }
 
-// Whether the bytes of a record's cell are right, after the record of this name.
-fn is_cell(part: &[u8], name: u64) -> bool
+// Whether the bytes of a record's cell are right, after the record of this name. A last expiry that was just judged is not judged again.
+fn is_cell(part: &[u8], name: u64, known: u32) -> bool
+    requires { ⌜ isLast known ≡ true ⌝ }
     ensures { λ r. ⌜ r ≡ cellTest (now (part .entry)) name ⌝ }
 {
     let cell = number64(part, 1);
     let edition = number16(part, 9);
+    let last = number32(part, 24);
     if cell <= name {
         return false;
     }
@@ -146,10 +150,23 @@ fn is_cell(part: &[u8], name: u64) -> bool
     if edition < 1 {
         return false;
     }
-    edition <= 999
+    if 999 < edition {
+        return false;
+    }
+    if last == known {
+        return true;
+    }
+    is_last(last)
 }
 
-// The last four bytes of a record, the last first, so that one load takes them as they lie.
+// The last expiry that needs no judging after this one: the one before where this is none.
+fn last_known(last: u32, known: u32) -> u32
+    ensures { λ r. ⌜ r ≡ lastKnown last known ⌝ }
+{
+    if last == 0 { known } else { last }
+}
+
+// The four bytes before a record's last expiry, the last first, so that one load takes them as they lie.
 fn spare_of(part: &[u8]) -> u32
     ensures { λ r. ⌜ r ≡ spareOf (now (part .entry)) ⌝ }
 {
@@ -183,17 +200,19 @@ fn part_from(book: &[u8], t: u8, first: usize, used: usize) -> Part
 {
     let mut name: u64 = 0;
     let mut spare: u32 = 0;
+    let mut known: u32 = 0;
     let mut at = first;
     while at < used {
         let part = &book[at..at + RECORD_SIZE];
         if byte_at(part, 0) != t {
             return ended(at, spare);
         }
-        if !is_cell(part, name) {
+        if !is_cell(part, name, known) {
             return Part::Wrong;
         }
         name = number64(part, 1);
         spare = spare | spare_of(part);
+        known = last_known(number32(part, 24), known);
         at += RECORD_SIZE;
     }
     ended(at, spare)
