@@ -16,7 +16,7 @@ use Rattle.tenants.specs.Alone.{withDays}
 use Rattle.tenants.specs.Rules.{sets}
 use Rattle.tenants.specs.Together.{BookRecord, noSetting, changed}
 use Rattle.tenants.proofs.Goodness.{Good}
-use Rattle.layout.specs.Layout.{settingBytes, recordBytes, allBytes, bookBytes, settingPlace, bookOf, isBook}
+use Rattle.layout.specs.Layout.{two, bookBytesBy, settingBytes, recordBytes, allBytes, bookBytes, settingPlace, bookOf, isBook}
 use Rattle.layout.proofs.Each.{bytes-append}
 use Rattle.layout.proofs.Sizes.{settings-size}
 use Rattle.layout.proofs.ReadBack.{start, rest}
@@ -44,17 +44,17 @@ days-replaced days records front x back =
     n = length records
 
     before : List ℕ
-    before = start n ++ (allBytes settingBytes front ++ bytesOf 2 (x .quota))
+    before = start two n ++ (allBytes settingBytes front ++ bytesOf 2 (x .quota))
 
     after : List ℕ
-    after = bytesOf 2 (x .server) ++ (bytesOf 1 (x .principal) ++ (allBytes settingBytes back ++ (allBytes recordBytes records ++ rest n)))
+    after = bytesOf 2 (x .server) ++ (bytesOf 1 (x .principal) ++ (allBytes settingBytes back ++ (allBytes recordBytes records ++ rest two n)))
 
     parts : (y : Setting)
         → bookBytes (record { settings = front ++ (y ∷ back); records = records })
-        ≡ (start n ++ (allBytes settingBytes front ++ bytesOf 2 (y .quota)))
+        ≡ (start two n ++ (allBytes settingBytes front ++ bytesOf 2 (y .quota)))
         ++ (bytesOf 1 (y .days)
-        ++ (bytesOf 2 (y .server) ++ (bytesOf 1 (y .principal) ++ (allBytes settingBytes back ++ (allBytes recordBytes records ++ rest n)))))
-    parts y = unfold bookBytes in rw (bytes-append settingBytes front (y ∷ back)) (unfold allBytes settingBytes in simp append-assoc)
+        ++ (bytesOf 2 (y .server) ++ (bytesOf 1 (y .principal) ++ (allBytes settingBytes back ++ (allBytes recordBytes records ++ rest two n)))))
+    parts y = unfold bookBytesBy in rw (bytes-append settingBytes front (y ∷ back)) (unfold allBytes settingBytes in simp append-assoc)
 
 module _ (s : List ℕ) (undamaged : isBook s ≡ true) where
   good : Good (bookOf s)

@@ -19,7 +19,7 @@ use Rattle.tenants.proofs.KeptGood.{good-after}
 use Rattle.tenants.proofs.Later.{replaced-moves-none, new-moves-later}
 use Rattle.tenants.proofs.Ranges.{tenant-is, days-below, name-below, held-below}
 use Rattle.tenants.proofs.Room.{has-place}
-use Rattle.layout.specs.Layout.{settingAt, settingPlace, recordCount, bookBytes, bookOf, isBook, ownIn}
+use Rattle.layout.specs.Layout.{two, settingAt, settingPlace, recordCount, bookBytes, bookOf, isBook, ownIn}
 use Rattle.layout.proofs.Indexed.{book-count, own-setting}
 use Rattle.layout.proofs.Fits.{book-fits}
 use Rattle.layout.proofs.ReadBack.{count-back}
@@ -94,7 +94,7 @@ module _ (s : List ℕ) (undamaged : isBook s ≡ true) (t : ℕ) (tenant : t �
             (good-after t (enter cell) (bookOf s) (undamaged-says s undamaged .0))
 
         count-then : recordCount then ≡ length (changed t (enters cell) (bookOf s) .records)
-        count-then = ap recordCount becomes ∙ count-back _ (book-fits _ good-then)
+        count-then = ap recordCount becomes ∙ count-back two _ (book-fits _ good-then)
 
         -- it has its place among the records then, which are few
         pub place-then : (i < recordCount then) × (recordCount then ≤ 512)

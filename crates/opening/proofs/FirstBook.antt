@@ -14,7 +14,7 @@ use Rattle.text.specs.Texts.{placed}
 use Rattle.text.proofs.PlacedTexts.{length-placed, placed-none, placed-start, placed-next}
 use Rattle.forms.specs.Output.{writtenNumber, writtenOf, lentAfter}
 use Rattle.tenants.specs.declared.Setting.{Setting}
-use Rattle.layout.specs.Layout.{bookSize, settingPlace, zeros, settingBytes, allBytes, bookBytes, eachFrom}
+use Rattle.layout.specs.Layout.{two, bookBytesBy, bookSize, settingPlace, zeros, settingBytes, allBytes, bookBytes, eachFrom}
 use Rattle.layout.proofs.Each.{each-count}
 use Rattle.layout.proofs.Sizes.{setting-size, settings-size, book-size}
 use Rattle.opening.specs.Opening.{firstSetting, emptyBook, areGiven, opened}
@@ -62,7 +62,7 @@ drop-zeros n m size e =
 
 -- version 1 and the used length
 abbrev start : List ℕ
-start = 1 ∷ 0 ∷ 0 ∷ 0 ∷ 101 ∷ []
+start = 2 ∷ 0 ∷ 0 ∷ 0 ∷ 101 ∷ []
 
 module _ (quotas ids principals : List ℕ) where
   -- the bytes of the settings of n tenants from t on
@@ -120,15 +120,15 @@ module _ (quotas ids principals : List ℕ) where
   abbrev emptyBytes : List ℕ
   emptyBytes = bookBytes (emptyBook quotas ids principals)
 
-  empty-is : emptyBytes ≡ (start ++ firstBytes 0 16) ++ zeros 12288
-  unfolding bookBytes emptyBook allBytes digits
-  empty-is = sym (append-assoc start (firstBytes 0 16) (zeros 12288))
+  empty-is : emptyBytes ≡ (start ++ firstBytes 0 16) ++ zeros 14336
+  unfolding bookBytesBy emptyBook allBytes digits
+  empty-is = sym (append-assoc start (firstBytes 0 16) (zeros 14336))
 
   -- the start and the settings on zeros
   pub empty-placed : (size : ℕ) (s₁ s₂ s₃ : List ℕ) → size ≡ bookSize
       → s₁ ≡ zeros size → s₂ ≡ placed 0 start s₁ → s₃ ≡ placed 5 (firstBytes 0 16) s₂ → s₃ ≡ emptyBytes
   empty-placed size s₁ s₂ s₃ e e₁ e₂ e₃ =
-      let long : length s₁ ≡ 12389 = ap length e₁ ∙ length-replicate size 0 ∙ e in
+      let long : length s₁ ≡ 14437 = ap length e₁ ∙ length-replicate size 0 ∙ e in
       let six : length (firstBytes 0 16) ≡ 96 = first-size 0 16 in
       let both : length (start ++ firstBytes 0 16) ≡ 101 = simp length-append (omega arith) in
       e₃
@@ -136,12 +136,12 @@ module _ (quotas ids principals : List ℕ) where
       ∙ placed-next 0 5 start (firstBytes 0 16) s₁ refl (omega arith)
       ∙ placed-start (start ++ firstBytes 0 16) s₁ (omega arith)
       ∙ ap₂ (λ (n : ℕ) (l : List ℕ). (start ++ firstBytes 0 16) ++ drop n l) both e₁
-      ∙ ap (λ (l : List ℕ). (start ++ firstBytes 0 16) ++ l) (drop-zeros 101 12288 size e)
+      ∙ ap (λ (l : List ℕ). (start ++ firstBytes 0 16) ++ l) (drop-zeros 101 14336 size e)
       ∙ sym empty-is
 
   empty-size : length emptyBytes ≡ bookSize
   unfolding emptyBook
-  empty-size = book-size (emptyBook quotas ids principals) (each-count (firstSetting quotas ids principals) 0 16) (omega arith)
+  empty-size = book-size two (emptyBook quotas ids principals) (each-count (firstSetting quotas ids principals) 0 16) (omega arith)
 
   -- the answer and the book afterwards
   abbrev pub Opened : List ℕ → ℕ → List ℕ → Type 0

@@ -142,13 +142,13 @@ fn put_settings(book: &mut [u8], quotas: &[u16], ids: &[u8], principals: &[u8])
     }
 }
 
-// The book with these settings and no cell: version 1, used length 101, the settings, and zeros.
+// The book with these settings and no cell: version 2, used length 101, the settings, and zeros.
 fn put_empty(book: &mut [u8], quotas: &[u16], ids: &[u8], principals: &[u8])
     requires { ⌜ (length (now book) ≡ bookSize) × ((length (now quotas) ≡ 16) × (length (now principals) ≡ 16)) ⌝ }
     ensures { λ _. ⌜ now (book .exit) ≡ bookBytes (emptyBook (now (quotas .entry)) (now (ids .entry)) (now (principals .entry))) ⌝ }
 {
     clear(book);
-    let start = [1u8, 0, 0, 0, 101];
+    let start = [2u8, 0, 0, 0, 101];
     text::writing::put_text(book, 0, &start);
     put_settings(book, quotas, ids, principals);
 }

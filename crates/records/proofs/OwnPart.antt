@@ -15,7 +15,7 @@ use Rattle.bytes.proofs.Every.{either}
 use Rattle.bytes.proofs.Places.{number-written}
 use Rattle.tenants.specs.Together.{BookRecord, names, fullName, tenantOf, nameOf, ownOf}
 use Rattle.tenants.proofs.Ordered.{Above, Sorted}
-use Rattle.layout.specs.Layout.{zeros, recordBytes, recordPlace, recordAt, recordCount, bookOf, isBook, listIn}
+use Rattle.layout.specs.Layout.{two, recordBytesBy, zeros, recordBytes, recordPlace, recordAt, recordCount, bookOf, isBook, listIn}
 use Rattle.judging.specs.Starts.{startOf, firstIn, pastIn}
 use Rattle.layout.proofs.Indexed.{book-count}
 use Rattle.layout.proofs.Promises.{good, written-so}
@@ -59,10 +59,10 @@ name-read r front back {s} {at} e place =
     tenant = r .name / 256 ^ 8 % 256
 
     after : List ℕ
-    after = (bytesOf 2 (r .edition) ++ (bytesOf 5 (r .key1) ++ (bytesOf 5 (r .key2) ++ zeros 3))) ++ back
+    after = (bytesOf 2 (r .edition) ++ (bytesOf 5 (r .key1) ++ (bytesOf 5 (r .key2) ++ (zeros 3 ++ bytesOf 4 (r .last))))) ++ back
 
     cut : front ++ (recordBytes r ++ back) ≡ (front ++ (tenant ∷ [])) ++ (bytesOf 8 (r .name) ++ after)
-    cut = unfold recordBytes digits in simp append-assoc
+    cut = unfold recordBytesBy digits in simp append-assoc
 
     start : at + 1 ≡ length (front ++ (tenant ∷ []))
     start = simp length-append (omega arith)
@@ -78,11 +78,11 @@ module _ (s : List ℕ) (undamaged : isBook s ≡ true) where
       let r : BookRecord = getD records i (recordAt s i) in
       let back : List BookRecord = drop (suc i) records in
       let n : ℕ = length records in
-      name-read r (bytesBefore n (bookOf s .settings) front) (bytesFrom n back)
+      name-read r (bytesBefore two n (bookOf s .settings) front) (bytesFrom two n back)
       (sym (written-so s undamaged)
-      ∙ cut-bytes (bookOf s) front (r ∷ back) (split-at records i (recordAt s i) within)
-      ∙ ap (λ (l : List ℕ). bytesBefore n (bookOf s .settings) front ++ l) (from-first n r back))
-      (before-size n (bookOf s .settings) front (good s undamaged .sixteen)
+      ∙ cut-bytes two (bookOf s) front (r ∷ back) (split-at records i (recordAt s i) within)
+      ∙ ap (λ (l : List ℕ). bytesBefore two n (bookOf s .settings) front ++ l) (from-first n r back))
+      (before-size two n (bookOf s .settings) front (good s undamaged .sixteen)
       ∙ ap recordPlace (length-take-le i records (omega arith)))
 
   module _ (t : ℕ) where

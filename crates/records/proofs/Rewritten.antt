@@ -9,7 +9,7 @@ use Rattle.bytes.specs.Numbers.{bytesOf}
 use Rattle.bytes.proofs.Digits.{digits-length}
 use Rattle.tenants.specs.Together.{BookRecord}
 use Rattle.tenants.specs.declared.Setting.{Setting}
-use Rattle.layout.specs.Layout.{
+use Rattle.layout.specs.Layout.{two, 
   recordSize,
   zeros,
   settingBytes,
@@ -25,9 +25,9 @@ use Rattle.layout.proofs.Splits.{rest-room, bytesBefore, bytesFrom, before-size
 use Rattle.records.specs.Moves.{usedPut, recordPut, insertedAmong, removedAmong}
 use Rattle.records.proofs.Around.{replaced-at, inserted-at, removed-at}
 
-pub from-first : (n : ℕ) (r : BookRecord) (back : List BookRecord) → bytesFrom n (r ∷ back) ≡ recordBytes r ++ bytesFrom n back
+pub from-first : (n : ℕ) (r : BookRecord) (back : List BookRecord) → bytesFrom two n (r ∷ back) ≡ recordBytes r ++ bytesFrom two n back
 unfolding allBytes
-from-first n r back = append-assoc (recordBytes r) (allBytes recordBytes back) (rest n)
+from-first n r back = append-assoc (recordBytes r) (allBytes recordBytes back) (rest two n)
 
 module _ (settings : List Setting) (sixteen : length settings ≡ 16) where
   abbrev with : List BookRecord → List ℕ
@@ -35,23 +35,23 @@ module _ (settings : List Setting) (sixteen : length settings ≡ 16) where
 
   -- cut at a record, where n are told
   cut : (n : ℕ) (front back : List BookRecord) → length (front ++ back) ≡ n
-      → with (front ++ back) ≡ bytesBefore n settings front ++ bytesFrom n back
+      → with (front ++ back) ≡ bytesBefore two n settings front ++ bytesFrom two n back
   cut n front back e =
-      cut-bytes (record { settings = settings; records = front ++ back }) front back refl
-      ∙ ap (λ (m : ℕ). bytesBefore m settings front ++ bytesFrom m back) e
+      cut-bytes two (record { settings = settings; records = front ++ back }) front back refl
+      ∙ ap (λ (m : ℕ). bytesBefore two m settings front ++ bytesFrom two m back) e
 
   used-put : (n m : ℕ) (front : List BookRecord) (l : List ℕ)
-      → usedPut (usedLength m) (bytesBefore n settings front ++ l) ≡ bytesBefore m settings front ++ l
+      → usedPut (usedLength m) (bytesBefore two n settings front ++ l) ≡ bytesBefore two m settings front ++ l
   used-put n m front l =
       ap (usedPut (usedLength m)) (parts n)
-      ∙ replaced-at (1 ∷ []) 1 refl (bytesOf 4 (usedLength n)) (bytesOf 4 (usedLength m)) after
+      ∙ replaced-at (2 ∷ []) 1 refl (bytesOf 4 (usedLength n)) (bytesOf 4 (usedLength m)) after
       (digits-length 256 4 _ ∙ sym (digits-length 256 4 _))
       ∙ sym (parts m)
     where
       after : List ℕ
       after = allBytes settingBytes settings ++ (allBytes recordBytes front ++ l)
 
-      parts : (n : ℕ) → bytesBefore n settings front ++ l ≡ (1 ∷ []) ++ (bytesOf 4 (usedLength n) ++ after)
+      parts : (n : ℕ) → bytesBefore two n settings front ++ l ≡ (2 ∷ []) ++ (bytesOf 4 (usedLength n) ++ after)
       parts n = simp append-assoc
 
   module _ (front : List BookRecord) (c : BookRecord) (back : List BookRecord) where
@@ -64,10 +64,10 @@ module _ (settings : List Setting) (sixteen : length settings ≡ 16) where
         let n : ℕ = length (front ++ (c ∷ back)) in
         let same : length (front ++ (it ∷ back)) ≡ n = simp length-append in
         ap (recordPut (length front) c)
-        (cut n front (it ∷ back) same ∙ ap (λ (l : List ℕ). bytesBefore n settings front ++ l) (from-first n it back))
-        ∙ replaced-at (bytesBefore n settings front) (recordPlace (length front)) (before-size n settings front sixteen)
-        (recordBytes it) (recordBytes c) (bytesFrom n back) (record-size it ∙ sym (record-size c))
-        ∙ sym (cut n front (c ∷ back) refl ∙ ap (λ (l : List ℕ). bytesBefore n settings front ++ l) (from-first n c back))
+        (cut n front (it ∷ back) same ∙ ap (λ (l : List ℕ). bytesBefore two n settings front ++ l) (from-first n it back))
+        ∙ replaced-at (bytesBefore two n settings front) (recordPlace (length front)) (before-size two n settings front sixteen)
+        (recordBytes it) (recordBytes c) (bytesFrom two n back) (record-size two it ∙ sym (record-size two c))
+        ∙ sym (cut n front (c ∷ back) refl ∙ ap (λ (l : List ℕ). bytesBefore two n settings front ++ l) (from-first n c back))
 
     module _ (n : ℕ) (told : length (front ++ back) ≡ n) (room : n < 512) where
       follow : length front + length back ≡ n
@@ -76,33 +76,33 @@ module _ (settings : List Setting) (sixteen : length settings ≡ 16) where
       pub record-inserted : insertedAmong n (length front) c (with (front ++ back)) ≡ with (front ++ (c ∷ back))
       record-inserted =
           ap (insertedAmong n (length front) c)
-          (cut n front back told ∙ ap (λ (l : List ℕ). before ++ (allBytes recordBytes back ++ l)) (rest-room n room))
+          (cut n front back told ∙ ap (λ (l : List ℕ). before ++ (allBytes recordBytes back ++ l)) (rest-room two n room))
           ∙ ap (usedPut (usedLength (suc n)))
-          (inserted-at before (recordPlace (length front)) (before-size n settings front sixteen)
-          (allBytes recordBytes back) (zeros recordSize) (recordBytes c) (rest (suc n))
-          recordSize (usedLength n) (omega (arith, follow, records-size back)) refl (record-size c)
+          (inserted-at before (recordPlace (length front)) (before-size two n settings front sixteen)
+          (allBytes recordBytes back) (zeros recordSize) (recordBytes c) (rest two (suc n))
+          recordSize (usedLength n) (omega (arith, follow, records-size two back)) refl (record-size two c)
           ∙ ap (λ (l : List ℕ). before ++ l) (sym (from-first (suc n) c back)))
-          ∙ used-put n (suc n) front (bytesFrom (suc n) (c ∷ back))
+          ∙ used-put n (suc n) front (bytesFrom two (suc n) (c ∷ back))
           ∙ sym (cut (suc n) front (c ∷ back) (more n told))
         where
           before : List ℕ
-          before = bytesBefore n settings front
+          before = bytesBefore two n settings front
 
       pub record-removed : removedAmong (suc n) (length front) (with (front ++ (c ∷ back))) ≡ with (front ++ back)
       record-removed =
           ap (removedAmong (suc n) (length front))
           (cut (suc n) front (c ∷ back) (more n told) ∙ ap (λ (l : List ℕ). before ++ l) (from-first (suc n) c back))
           ∙ ap (usedPut (usedLength (suc n - 1)))
-          (removed-at before (recordPlace (length front)) (before-size (suc n) settings front sixteen)
-          (recordBytes c) (allBytes recordBytes back) (rest (suc n))
-          recordSize (usedLength (suc n)) (record-size c) (omega (arith, follow, records-size back))
-          ∙ ap (λ (l : List ℕ). before ++ (allBytes recordBytes back ++ l)) (sym (rest-room n room)))
-          ∙ ap (λ (m : ℕ). usedPut (usedLength m) (before ++ bytesFrom n back)) less
-          ∙ used-put (suc n) n front (bytesFrom n back)
+          (removed-at before (recordPlace (length front)) (before-size two (suc n) settings front sixteen)
+          (recordBytes c) (allBytes recordBytes back) (rest two (suc n))
+          recordSize (usedLength (suc n)) (record-size two c) (omega (arith, follow, records-size two back))
+          ∙ ap (λ (l : List ℕ). before ++ (allBytes recordBytes back ++ l)) (sym (rest-room two n room)))
+          ∙ ap (λ (m : ℕ). usedPut (usedLength m) (before ++ bytesFrom two n back)) less
+          ∙ used-put (suc n) n front (bytesFrom two n back)
           ∙ sym (cut n front back told)
         where
           before : List ℕ
-          before = bytesBefore (suc n) settings front
+          before = bytesBefore two (suc n) settings front
 
           less : suc n - 1 ≡ n
           less = omega arith

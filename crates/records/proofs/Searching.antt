@@ -12,7 +12,7 @@ use Rattle.bytes.specs.Numbers.{Below}
 use Rattle.bytes.proofs.Every.{either}
 use Rattle.bytes.proofs.Places.{number-at-below}
 use Rattle.tenants.specs.Together.{names, fullName}
-use Rattle.layout.specs.Layout.{usedLength, recordAt, recordCount, bookOf, isBook}
+use Rattle.layout.specs.Layout.{recordCountBy, usedLength, recordAt, recordCount, bookOf, isBook}
 use Rattle.judging.specs.Starts.{firstIn, pastIn}
 use Rattle.layout.proofs.Frame.{book-frame}
 use Rattle.layout.proofs.Indexed.{book-count}
@@ -31,7 +31,7 @@ own-named t n m =
 
 -- a used length of four bytes tells no more records than this
 pub count-most : (s : List ℕ) → Below 256 s → recordCount s ≤ 178956966
-unfolding recordCount
+unfolding recordCountBy
 count-most s below = omega (arith, number-at-below 4 s 1 below)
 
 module _ (at : ℕ → ℕ) (name : ℕ) where

@@ -6,6 +6,7 @@ ghost use Rattle.tenants.specs.Together.{cellIn};
 ghost use Rattle.layout.specs.Layout.{recordSize, usedLength, recordPlace, recordAt};
 ghost use Rattle.records.specs.Finding.{nameAt, placeIn, searched};
 use bytes::numbers::number16;
+use bytes::numbers::number32;
 use bytes::numbers::number40;
 use bytes::numbers::number64;
 use layout::RECORD_SIZE;
@@ -71,5 +72,6 @@ pub fn cell_at(book: &[u8], i: u32) -> Held
         edition: number16(book, at + 9) as u32,
         key1: number40(book, at + 11),
         key2: number40(book, at + 16),
+        last: number32(book, at + 24),
     }
 }

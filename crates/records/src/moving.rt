@@ -57,17 +57,25 @@ fn put_full_name(book: &mut [u8], at: usize, tenant: u32, name: u64)
     text::writing::put_text(book, at + 1, &rest);
 }
 
-// Writes the two keys, and the zeros that fill up a record.
-fn put_keys(book: &mut [u8], at: usize, key1: u64, key2: u64)
-    requires { ⌜ at + 13 ≤ length (now book) ⌝ }
-    ensures { λ _. ⌜ now (book .exit) ≡ placed at (bytesOf 5 key1 ++ (bytesOf 5 key2 ++ zeros 3)) (now (book .entry)) ⌝ }
+// Writes the two keys, three zeros and the last expiry, which fill up a record.
+fn put_keys(book: &mut [u8], at: usize, key1: u64, key2: u64, last: u32)
+    requires { ⌜ at + 17 ≤ length (now book) ⌝ }
+    ensures { λ _. ⌜ now (book .exit) ≡ placed at (bytesOf 5 key1 ++ (bytesOf 5 key2 ++ (zeros 3 ++ bytesOf 4 last))) (now (book .entry)) ⌝ }
 {
     let one = bytes::numbers::bytes40(key1);
     let two = bytes::numbers::bytes40(key2);
-    let spare = [0u8; 3];
+    let ending = [
+        0u8,
+        0,
+        0,
+        (last / 16777216 % 256) as u8,
+        (last / 65536 % 256) as u8,
+        (last / 256 % 256) as u8,
+        (last % 256) as u8,
+    ];
     text::writing::put_text(book, at, &one);
     text::writing::put_text(book, at + 5, &two);
-    text::writing::put_text(book, at + 10, &spare);
+    text::writing::put_text(book, at + 10, &ending);
 }
 
 // Writes the fields of a tenant's cell, one after the other.
@@ -78,7 +86,7 @@ fn put_fields(book: &mut [u8], at: usize, tenant: u32, cell: Held)
     let edition = bytes::numbers::bytes16((cell.edition % 65536) as u16);
     put_full_name(book, at, tenant, cell.name);
     text::writing::put_text(book, at + 9, &edition);
-    put_keys(book, at + 11, cell.key1, cell.key2);
+    put_keys(book, at + 11, cell.key1, cell.key2, cell.last);
 }
 
 // Writes a tenant's cell as record i.

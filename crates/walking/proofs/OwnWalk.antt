@@ -15,7 +15,7 @@ use Rattle.tenants.specs.Together.{BookRecord, names, tenantOf, nameOf, cellIn,
 use Rattle.tenants.proofs.Ordered.{Above, Sorted, Stands, before, same, behind, stands}
 use Rattle.tenants.proofs.OwnCells.{cells-mine, cells-not, own-sorted}
 use Rattle.tenants.proofs.Producers.{holds-first, holds-rest, holds-none}
-use Rattle.layout.specs.Layout.{usedLength, recordAt, recordCount, eachFrom, bookOf, isBook, listIn}
+use Rattle.layout.specs.Layout.{bookOfBy, usedLength, recordAt, recordCount, eachFrom, bookOf, isBook, listIn}
 use Rattle.layout.proofs.Frame.{book-frame}
 use Rattle.layout.proofs.Indexed.{book-count}
 use Rattle.layout.proofs.Promises.{good}
@@ -137,7 +137,7 @@ module _ (s : List ℕ) (t producer : ℕ) where
         omega (arith, start-within (suc t) records, book-count s, frame .size, frame .few)
 
     walks-records : walked s producer (firstIn s t) (pastIn s t - firstIn s t) ≡ holdsAny producer (cellsOf t records)
-    unfolding bookOf
+    unfolding bookOfBy
     walks-records =
         let many : pastIn s t - firstIn s t ≡ length (cellsOf t records) = omega (arith, start-next t records) in
         let from : firstIn s t ≡ 0 + firstIn s t = omega arith in

@@ -39,14 +39,21 @@ add-number40-2 c = search needs
 number40-requires-2 : tie.Need-number40-requires-2
 number40-requires-2 c κs = search needs
 
+add-number32 : tie.Need-add-number32
+add-number32 c = search needs
+
+number32-requires : tie.Need-number32-requires
+number32-requires c κs = search needs
+
 returns : tie.Need-returns
 returns c =
-    let known = c .before .before .before .before in
-    cell-read (known .before .args .book .now) (known .before .args .i) _ _ _ _ (λ k. omega (arith, known .shared-slice-known .given k))
-    (c .before .before .before .number64 .ensures)
-    (c .before .before .number16 .ensures)
-    (c .before .number40 .ensures)
-    (c .number402 .ensures)
+    let known = c .before .before .before .before .before in
+    cell-read (known .before .args .book .now) (known .before .args .i) _ _ _ _ _ (λ k. omega (arith, known .shared-slice-known .given k))
+    (c .before .before .before .before .number64 .ensures)
+    (c .before .before .before .number16 .ensures)
+    (c .before .before .number40 .ensures)
+    (c .before .number402 .ensures)
+    (c .number32 .ensures)
 
 pub cell-at-spec : {M : Type 1} → statement M
 cell-at-spec =
@@ -63,4 +70,6 @@ cell-at-spec =
     number40-requires
     add-number40-2
     number40-requires-2
+    add-number32
+    number32-requires
     returns)

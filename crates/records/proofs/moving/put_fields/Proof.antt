@@ -1,4 +1,4 @@
--- `records::moving::put_fields` meets its contract: the full name, the edition, and the keys with the zeros.
+-- `records::moving::put_fields` meets its contract: the full name, the edition, and what fills up the record.
 -- Assumes nothing.
 use mathlib.Core.Path.{ap, _∙_}
 use mathlib.Core.List.{List, _++_}
@@ -11,7 +11,7 @@ use Rattle.text.specs.Texts.{placed}
 use Rattle.bytes.proofs.Digits.{digits-length, digits-of-low}
 use Rattle.tenants.specs.declared.Held.{Held}
 use Rattle.tenants.specs.Together.{fullName}
-use Rattle.layout.specs.Layout.{zeros, recordBytes}
+use Rattle.layout.specs.Layout.{recordBytesBy, zeros}
 use Rattle.records.proofs.Writes.{three-put}
 use Rattle.records.proofs.moving.put_fields.Statement.{statement}
 use Rattle.records.proofs.moving.put_fields.Tie as tie
@@ -44,7 +44,7 @@ same-length : tie.Need-same-length
 same-length c = search needs
 
 returns : tie.Need-returns
-unfolding recordBytes
+unfolding recordBytesBy
 returns c =
     let third = c .before .before in
     let second = third .before .before .before .before in
@@ -58,7 +58,7 @@ returns c =
     (start .args .book .now) (first .put-full-name .last .0) (second .put-text .last .0)
     (first .put-full-name .ensures)
     (second .put-text .ensures ∙ ap (λ (t : List ℕ). placed (at + 9) t (first .put-full-name .last .0)) (read .bytes16 .ensures ∙ digits-of-low 256 2 (cell .edition) (omega arith)))
-    (at + 11) (bytesOf 5 (cell .key1) ++ (bytesOf 5 (cell .key2) ++ zeros 3)) _ (third .put-keys .ensures)
+    (at + 11) (bytesOf 5 (cell .key1) ++ (bytesOf 5 (cell .key2) ++ (zeros 3 ++ bytesOf 4 (cell .last)))) _ (third .put-keys .ensures)
     (rw digits-length) (rw digits-length (omega arith)) (simp (digits-length, length-append) (omega (arith, start .pre)))
 
 pub put-fields-spec : {M : Type 1} → statement M

@@ -1,15 +1,16 @@
--- `records::moving::put_keys` meets its contract: two keys and the zeros, one after the other.
+-- `records::moving::put_keys` meets its contract: two keys, and the zeros with the last expiry.
 -- Assumes nothing.
 use mathlib.Core.Path.{ap, _∙_}
-use mathlib.Core.List.{List}
+use mathlib.Core.List.{List, _++_}
 use Prim.Native.Nat.{ℕ, _+_}
 use native.Mathlib.Omega.{arith}
 use borrow.Author.Needs.{needs}
+use lib.ListN.{length-append}
 use Rattle.bytes.specs.Numbers.{bytesOf}
 use Rattle.text.specs.Texts.{placed}
 use Rattle.bytes.proofs.Digits.{digits-length}
 use Rattle.layout.specs.Layout.{zeros}
-use Rattle.records.proofs.Writes.{three-put}
+use Rattle.records.proofs.Writes.{ending-bytes, three-put}
 use Rattle.records.proofs.moving.put_keys.Statement.{statement}
 use Rattle.records.proofs.moving.put_keys.Tie as tie
 
@@ -18,6 +19,18 @@ bytes40-requires c κs = search needs
 
 bytes40-requires-2 : tie.Need-bytes40-requires-2
 bytes40-requires-2 c κs = search needs
+
+cast-t12 : tie.Need-cast-t12
+cast-t12 c = search needs
+
+cast-t15 : tie.Need-cast-t15
+cast-t15 c = search needs
+
+cast-t18 : tie.Need-cast-t18
+cast-t18 c = search needs
+
+cast-t20 : tie.Need-cast-t20
+cast-t20 c = search needs
 
 slice-aggregate-put-text : tie.Need-slice-aggregate-put-text
 slice-aggregate-put-text c = search needs
@@ -57,11 +70,13 @@ returns c =
     let at : ℕ = start .args .at in
     let key1 : ℕ = start .args .key1 in
     let key2 : ℕ = start .args .key2 in
+    let last : ℕ = start .args .last in
     three-put at (at + 5) (bytesOf 5 key1) (bytesOf 5 key2) (start .args .book .now) (first .put-text .last .0) (second .put-text2 .last .0)
     (first .put-text .ensures ∙ ap (λ (t : List ℕ). placed at t (start .args .book .now)) (one .bytes40 .ensures))
     (second .put-text2 .ensures ∙ ap (λ (t : List ℕ). placed (at + 5) t (first .put-text .last .0)) (two .bytes402 .ensures))
-    (at + 10) (zeros 3) _ (third .put-text3 .ensures)
-    (rw digits-length) (rw digits-length (omega arith)) (simp digits-length (omega (arith, start .pre)))
+    (at + 10) (zeros 3 ++ bytesOf 4 last) _
+    (third .put-text3 .ensures ∙ ap (λ (t : List ℕ). placed (at + 10) t (second .put-text2 .last .0)) (ending-bytes last))
+    (rw digits-length) (rw digits-length (omega arith)) (simp (length-append, digits-length) (omega (arith, start .pre)))
 
 pub put-keys-spec : {M : Type 1} → statement M
 put-keys-spec =
@@ -69,6 +84,10 @@ put-keys-spec =
     (tie.spec
     bytes40-requires
     bytes40-requires-2
+    cast-t12
+    cast-t15
+    cast-t18
+    cast-t20
     slice-aggregate-put-text
     put-text-requires
     add-put-text

@@ -8,7 +8,7 @@ use borrow.Author.Tests.{leb-true, leb-false}
 use lib.ListN.{length}
 use Rattle.text.proofs.PlacedTexts.{placed-beyond}
 use Rattle.tenants.specs.Together.{inBook}
-use Rattle.layout.specs.Layout.{recordSize, recordPlace, recordBytes}
+use Rattle.layout.specs.Layout.{two, recordSize, recordPlace, recordBytes}
 use Rattle.layout.proofs.Sizes.{record-size}
 use Rattle.records.proofs.moving.put_record.Statement.{statement}
 use Rattle.records.proofs.moving.put_record.Tie as tie
@@ -41,7 +41,7 @@ returns-2 c =
     leb-false _ _ (sym (c .before .lies-within .ensures) ∙ c .if1 .left) in
     sym
     (placed-beyond (recordPlace (args .i)) (recordBytes (inBook (args .tenant) (args .cell))) (args .book .now)
-    (omega (arith, record-size (inBook (args .tenant) (args .cell)))))
+    (omega (arith, record-size two (inBook (args .tenant) (args .cell)))))
 
 pub put-record-spec : {M : Type 1} → statement M
 put-record-spec =
