@@ -24,7 +24,7 @@ use Rattle.tenants.specs.declared.Setting.{Setting}
 use Rattle.tenants.specs.declared.Asked.the-variants as asked
 use Rattle.tenants.specs.declared.Holding.the-variants as of-producer
 use Rattle.tenants.specs.Cells.{cellOf, holdsAny}
-use Rattle.tenants.specs.Rules.{Own, isTenant, asking, askingProducer, lineCell, lineFor, issuing, checking}
+use Rattle.tenants.specs.Rules.{Own, isTenant, asking, askingProducer, lineCell, inTime, lineFor, issuing, checking}
 use Rattle.layout.specs.Layout.{isBook, ownIn}
 use Rattle.asking.specs.Issuing.{lineWritten}
 use Rattle.asking.specs.Asking.{editionIn, holdingIn, issuedFrom, checkedBy}
@@ -129,9 +129,12 @@ module _ (expiry level room : ℕ) (cell : Option Held) (setting : Setting) (shi
     pub line-absent : cell ≡ none → lineWritten ship cell setting expiry level room ≡ refusal 104
     line-absent absent = rw (e, absent)
 
-    pub line-held : (it : Held) (own : Setting) → cell ≡ some it → setting ≡ own
+    pub line-late : (it : Held) → cell ≡ some it → inTime it expiry ≡ false → lineWritten ship cell setting expiry level room ≡ refusal 112
+    line-late it held late = rw (e, held, late)
+
+    pub line-held : (it : Held) (own : Setting) → cell ≡ some it → setting ≡ own → inTime it expiry ≡ true
         → lineWritten ship cell setting expiry level room ≡ writtenLine hw (lineCell own it expiry level) room
-    line-held it own held is = rw (e, held, is)
+    line-held it own held is early = rw (e, held, is, early)
 
 module _ (t hw today : ℕ) (line : List ℕ) where
   module _ (s : List ℕ) where

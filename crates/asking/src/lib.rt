@@ -8,7 +8,7 @@ ghost use Rattle.dates.specs.Calendar.{isDate};
 ghost use Rattle.forms.specs.Identifiers.{isCellName};
 ghost use Rattle.forms.specs.Output.{writtenOf, lentAfter};
 ghost use Rattle.tenants.specs.Cells.{cellOf};
-ghost use Rattle.tenants.specs.Rules.{asking, issuing, checking};
+ghost use Rattle.tenants.specs.Rules.{inTime, asking, issuing, checking};
 ghost use Rattle.layout.specs.Layout.{isBook, ownIn};
 ghost use Rattle.records.specs.Finding.{searchedFor};
 ghost use Rattle.asking.specs.Issuing.{lineWritten};
@@ -23,6 +23,7 @@ use records::finding::Found;
 use records::finding::cell_at;
 use records::finding::find;
 use tenants::Asked;
+use tenants::Held;
 use tenants::Holding;
 use user_permit::UserPermit;
 use walking::any_among;
@@ -84,6 +85,16 @@ fn are_given(name: u64, expiry: u32, level: u32) -> bool
     level <= 1
 }
 
+// Whether a cell may be sold for an expiry: it has no last one, or this is not later.
+fn in_time(cell: Held, expiry: u32) -> bool
+    ensures { λ r. ⌜ r ≡ inTime cell expiry ⌝ }
+{
+    if cell.last == 0 {
+        return true;
+    }
+    expiry <= cell.last
+}
+
 // The line of a tenant's cell, as the search found it, for the ship of a user permit, as that reads.
 fn issue_for(
     book: &[u8],
@@ -110,6 +121,9 @@ fn issue_for(
         return Written::Refused(104);
     };
     let held = cell_at(book, i);
+    if !in_time(held, expiry) {
+        return Written::Refused(112);
+    }
     let cell = Cell {
         name: held.name,
         key1: held.key1,

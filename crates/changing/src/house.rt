@@ -20,7 +20,7 @@ pub enum Moved {
     Refused(u32),
 }
 
-// Whether a cell's name, edition and keys are in their ranges and alphabets.
+// Whether a cell's name, edition, keys and last expiry are in their ranges and alphabets.
 fn is_held(cell: Held) -> bool
     ensures { λ r. ⌜ r ≡ isHeld cell ⌝ }
 {
@@ -36,7 +36,10 @@ fn is_held(cell: Held) -> bool
     if 0xFF_FFFF_FFFF < cell.key1 {
         return false;
     }
-    cell.key2 <= 0xFF_FFFF_FFFF
+    if 0xFF_FFFF_FFFF < cell.key2 {
+        return false;
+    }
+    tenants::is_last(cell.last)
 }
 
 // What enter and withdraw are refused with before the cells are asked for: 103 where what was given does not fit, then 111 for a branch. 0 for neither.

@@ -5,7 +5,7 @@ use Prim.Native.Nat.{ℕ}
 use native.Mathlib.Omega.{arith}
 use borrow.Author.Needs.{needs}
 use borrow.Author.Tests.{not-true, not-false}
-use Rattle.tenants.proofs.Ranges.{not-fit, by-second-key}
+use Rattle.tenants.proofs.Ranges.{not-fit, by-last}
 use Rattle.changing.proofs.house.is_held.Statement.{statement}
 use Rattle.changing.proofs.house.is_held.Tie as tie
 
@@ -25,13 +25,22 @@ returns-4 : tie.Need-returns-4
 returns-4 c = not-fit _ (λ fit. omega (arith, fit .key1, c .if4 .taken))
 
 returns-5 : tie.Need-returns-5
-returns-5 c =
-    let key = c .before in
+returns-5 c = not-fit _ (λ fit. omega (arith, fit .key2, c .if5 .taken))
+
+is-last-requires : tie.Need-is-last-requires
+is-last-requires c κs = search needs
+
+returns-6 : tie.Need-returns-6
+returns-6 c =
+    let second = c .before in
+    let key = second .before .before in
     let high = key .before .before in
     let low = high .before .before in
     let name = low .before .before in
-    by-second-key _ (sym (name .before .is-cell-name .ensures) ∙ not-false _ (name .if1 .left)) (low .if2 .left) (high .if3 .left) (key .if4 .left)
+    c .is-last .ensures
+    ∙ by-last _ (sym (name .before .is-cell-name .ensures) ∙ not-false _ (name .if1 .left)) (low .if2 .left) (high .if3 .left) (key .if4 .left)
+    (second .if5 .left)
 
 pub is-held-spec : {M : Type 1} → statement M
 is-held-spec =
-    tie.close (tie.spec is-cell-name-requires returns returns-2 returns-3 returns-4 returns-5)
+    tie.close (tie.spec is-cell-name-requires returns returns-2 returns-3 returns-4 returns-5 is-last-requires returns-6)
