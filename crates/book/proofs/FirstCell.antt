@@ -20,7 +20,7 @@ use Rattle.tenants.proofs.Ranges.{tenant-below}
 use Rattle.tenants.proofs.Goodness.{good-facts}
 use Rattle.tenants.proofs.Kept.{quota-none}
 use Rattle.tenants.proofs.KeptGood.{good-after}
-use Rattle.layout.specs.Layout.{usedLength, bookBytes}
+use Rattle.layout.specs.Layout.{two, usedLength, bookBytes}
 use Rattle.layout.proofs.Each.{each-is}
 use Rattle.layout.proofs.Fits.{book-fits}
 use Rattle.layout.proofs.ReadBack.{used-back}
@@ -50,7 +50,7 @@ module _ (quotas ids principals : List ℕ) (t : ℕ) (cell : Held) (tenant : is
       → numberAt 4 (bookBytes (changed t (enters cell) (emptyBook quotas ids principals))) 1 ≡ usedLength 1
   unfolding emptyBook entered
   used-then good =
-      used-back (changed t (enters cell) (emptyBook quotas ids principals))
+      used-back two (changed t (enters cell) (emptyBook quotas ids principals))
       (book-fits (changed t (enters cell) (emptyBook quotas ids principals))
       (rw (first-enters good) at (good-after t (enter cell) (emptyBook quotas ids principals) good)))
 

@@ -19,7 +19,7 @@ use Rattle.cell_permit.proofs.WrittenCapitals.{written-in-capitals}
 use Rattle.tenants.specs.declared.Held.{Held}
 use Rattle.tenants.specs.declared.Setting.{Setting}
 use Rattle.tenants.specs.Cells.{cellOf}
-use Rattle.tenants.specs.Rules.{isTenant, lineCell, issuing}
+use Rattle.tenants.specs.Rules.{isTenant, lineCell, inTime, issuing}
 use Rattle.layout.specs.Layout.{isBook, ownIn}
 use Rattle.asking.specs.Asking.{issuedFrom}
 use Rattle.asking.specs.Issuing.{lineWritten}
@@ -30,7 +30,8 @@ line-in-capitals : (ship : UserPermit) (cell : Option Held) (setting : Setting) 
     → InCapitals (lineWritten ship cell setting expiry level room)
 line-in-capitals (Refused n) cell setting expiry level room = refl
 line-in-capitals (Ship hw m) none setting expiry level room = refl
-line-in-capitals (Ship hw m) (some cell) setting expiry level room = written-in-capitals hw room (lineCell setting cell expiry level)
+line-in-capitals (Ship hw m) (some cell) setting expiry level room =
+    demanded InCapitals (inTime cell expiry) (refusal 112) _ refl (λ _. written-in-capitals hw room (lineCell setting cell expiry level))
 
 pub issued-in-capitals : IssuedInCapitals
 unfolding issuedFrom issuing

@@ -10,7 +10,8 @@ use borrow.Author.Tests.{le-leb}
 use Rattle.dates.specs.Calendar.{isDate}
 use Rattle.dates.specs.Notice.{isDays}
 use Rattle.forms.specs.Identifiers.{isHwId, isCellName}
-use Rattle.forms.specs.Output.{text}
+use Rattle.forms.specs.Order.{demand}
+use Rattle.forms.specs.Output.{text, refusal}
 use Rattle.user_permit.specs.Register.{isRegister}
 use Rattle.user_permit.specs.UserPermit.{readPermit}
 use Rattle.user_permit.specs.declared.UserPermit.the-variants.{Ship}
@@ -22,7 +23,7 @@ use Rattle.cell_permit.proofs.LineBack.{line-reads-back}
 use Rattle.tenants.specs.declared.Held.{Held}
 use Rattle.tenants.specs.declared.Setting.{Setting}
 use Rattle.tenants.specs.Cells.{cellOf}
-use Rattle.tenants.specs.Rules.{isTenant, lineCell, issuing, checking}
+use Rattle.tenants.specs.Rules.{isTenant, lineCell, inTime, issuing, checking}
 use Rattle.tenants.proofs.Ordered.{found-name}
 use Rattle.layout.specs.Layout.{isBook, ownIn}
 use Rattle.asking.specs.Asking.{issuedFrom, checkedBy}
@@ -44,7 +45,7 @@ module _ (s register permit : List ℕ) (t name expiry level room hw m : ℕ) (c
     (registered : isRegister register ≡ true) (ship : readPermit register permit ≡ Ship hw m) (found : cellOf name (ownIn s t .cells) ≡ some cell)
     (date : isDate expiry ≡ true) (low : level ≤ 1) (roomy : 76 ≤ room) where
   pub issued-line : issuedFrom s register t name expiry level permit room
-      ≡ text (lineOf (shipWords hw) (lineCell (ownIn s t .setting) cell expiry level) ++ lineEnd)
+      ≡ demand (inTime cell expiry) (refusal 112) (text (lineOf (shipWords hw) (lineCell (ownIn s t .setting) cell expiry level) ++ lineEnd))
   unfolding issuedFrom issuing
   issued-line =
       let is-name : isCellName name ≡ true = ap isCellName (sym (found-name name (ownIn s t .cells) cell found)) ∙ fits s t undamaged tenant name cell found .name in
@@ -65,10 +66,10 @@ line-checked s t name expiry level hw today cell undamaged tenant found date low
     (cell-good s t undamaged tenant expiry level date low name cell found) (given-zero hw today (setting .days) form now days) (omega arith) .1 .1)
 
 pub issued-reads-back : IssuedReadsBack
-issued-reads-back s register permit t name expiry level room hw m today cell undamaged tenant registered ship found date low roomy now = (
+issued-reads-back s register permit t name expiry level room hw m today cell undamaged tenant registered ship found date early low roomy now = (
   found-name name (ownIn s t .cells) cell found,
   (
-    issued-line s register permit t name expiry level room hw m cell undamaged tenant registered ship found date low roomy,
+    rw early at (issued-line s register permit t name expiry level room hw m cell undamaged tenant registered ship found date low roomy),
     line-checked s t name expiry level hw today cell undamaged tenant found date low (ship-form hw m register permit ship) now,
   ),
 )

@@ -4,6 +4,7 @@ use mathlib.Core.Bool.{true}
 use mathlib.Core.List.{List, _++_}
 use Prim.Native.Nat.{ℕ, _≤_}
 use Rattle.dates.specs.Calendar.{isDate}
+use Rattle.forms.specs.Order.{demand}
 use Rattle.forms.specs.Identifiers.{isHwId}
 use Rattle.forms.specs.Output.{text, refusal}
 use Rattle.user_permit.specs.Register.{isRegister}
@@ -14,7 +15,7 @@ use Rattle.cell_permit.specs.ReadBack.{recordFor}
 use Rattle.tenants.specs.declared.Held.{Held}
 use Rattle.tenants.specs.declared.Setting.{Setting}
 use Rattle.tenants.specs.declared.Asked.the-variants.{Edition, Refused}
-use Rattle.tenants.specs.Rules.{lineCell, changeNumber}
+use Rattle.tenants.specs.Rules.{lineCell, inTime, changeNumber}
 use Rattle.layout.specs.Layout.{listIn, ownIn}
 use Rattle.changing.specs.Changing.{entry, withdrawal, newDays, bytesAfter}
 use Rattle.asking.specs.Asking.{editionIn, issuedFrom, checkedBy}
@@ -45,12 +46,12 @@ pub record GoodOrder (register permit : List ℕ) (expiry level room hw m : ℕ)
   pub low : level ≤ 1
   pub roomy : 76 ≤ room
 
--- a name gives tenant t this cell: its edition when asked, its line when issued, and its keys when that line is checked
+-- a name gives tenant t this cell: its edition when asked, its line when issued, or 112 where that is too late, and its keys when that line is checked
 pub record GivesCell (s : List ℕ) (t : ℕ) (setting : Setting) (cell : Held) : Type 0 where
   pub asked : editionIn s t (cell .name) ≡ Edition (cell .edition)
   pub issued : (register permit : List ℕ) (expiry level room hw m : ℕ) → GoodOrder register permit expiry level room hw m
       → issuedFrom s register t (cell .name) expiry level permit room
-      ≡ text (lineOf (shipWords hw) (lineCell setting cell expiry level) ++ lineEnd)
+      ≡ demand (inTime cell expiry) (refusal 112) (text (lineOf (shipWords hw) (lineCell setting cell expiry level) ++ lineEnd))
   pub checked : (expiry level hw today : ℕ) → isDate expiry ≡ true → level ≤ 1 → isHwId hw ≡ true → isDate today ≡ true
       → checkedBy s t hw today (lineOf (shipWords hw) (lineCell setting cell expiry level))
       ≡ recordFor today (setting .days) (lineCell setting cell expiry level)

@@ -14,7 +14,7 @@ use Rattle.cell_permit.specs.CellPermit.{shipWords, lineOf, lineEnd}
 use Rattle.cell_permit.specs.ReadBack.{recordFor}
 use Rattle.tenants.specs.declared.Held.{Held}
 use Rattle.tenants.specs.Cells.{cellOf}
-use Rattle.tenants.specs.Rules.{isTenant, lineCell}
+use Rattle.tenants.specs.Rules.{isTenant, lineCell, inTime}
 use Rattle.tenants.specs.Calls.{Call, answerNumber}
 use Rattle.layout.specs.Layout.{bookOf, isBook, listIn, ownIn}
 use Rattle.asking.specs.Asking.{issuedFrom, checkedBy}
@@ -47,13 +47,13 @@ BranchLeavesCells =
 abbrev pub RefusalLeaves : Type 0
 RefusalLeaves = (s : List ℕ) (t : ℕ) (call : Call) → (answerNumber (answerIn t call s) ≡ 0 → ⊥) → bookAfter t call s ≡ s
 
--- what is issued for a ship is the line of the cell that is held under the name asked for, and the tenant's own check of it answers that cell
--- with the notice of its own days
+-- what is issued for a ship, where it is in time, is the line of the cell that is held under the name asked for, and the tenant's own check of it
+-- answers that cell with the notice of its own days
 abbrev pub IssuedReadsBack : Type 0
 IssuedReadsBack =
     (s register permit : List ℕ) (t name expiry level room hw m today : ℕ) (cell : Held)
     → isBook s ≡ true → isTenant t ≡ true → isRegister register ≡ true → readPermit register permit ≡ Ship hw m
-    → cellOf name (ownIn s t .cells) ≡ some cell → isDate expiry ≡ true → level ≤ 1 → 76 ≤ room → isDate today ≡ true
+    → cellOf name (ownIn s t .cells) ≡ some cell → isDate expiry ≡ true → inTime cell expiry ≡ true → level ≤ 1 → 76 ≤ room → isDate today ≡ true
     → (cell .name ≡ name)
     × ((issuedFrom s register t name expiry level permit room
     ≡ text (lineOf (shipWords hw) (lineCell (ownIn s t .setting) cell expiry level) ++ lineEnd))

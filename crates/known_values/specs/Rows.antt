@@ -62,7 +62,7 @@ rows =
     -- P11
     ∷ refusedHwId (identifier "1234G") 18
     -- P12: one cell entered in an opened book
-    ∷ usedAfterEntering 125
+    ∷ usedAfterEntering 129
     ∷ []
 
 -- the number that comes back for the expiry of a subscription, at 30 warning days
