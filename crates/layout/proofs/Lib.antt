@@ -1,5 +1,6 @@
 pub mod Versions
 pub mod Each
+pub mod AllPut
 pub mod AllFrom
 pub mod Told
 pub mod Sizes

@@ -14,9 +14,10 @@ use Rattle.text.specs.Texts.{placed}
 use Rattle.text.proofs.PlacedTexts.{length-placed, placed-none, placed-start, placed-next}
 use Rattle.forms.specs.Output.{writtenNumber, writtenOf, lentAfter}
 use Rattle.tenants.specs.declared.Setting.{Setting}
-use Rattle.layout.specs.Layout.{two, bookBytesBy, bookSize, settingPlace, zeros, settingBytes, allBytes, bookBytes, eachFrom}
+use Rattle.layout.specs.Layout.{two, bookBytesBy, bookSize, settingSize, recordsPlace, settingPlace, zeros, settingBytes, allBytes, bookBytes, eachFrom}
 use Rattle.layout.proofs.Each.{each-count}
-use Rattle.layout.proofs.Sizes.{setting-size, settings-size, book-size}
+use Rattle.layout.proofs.AllPut.{AllPut, put-none, put-next, put-all}
+use Rattle.layout.proofs.Sizes.{drop-zeros, setting-size, settings-size, book-size}
 use Rattle.opening.specs.Opening.{firstSetting, emptyBook, areGiven, opened}
 
 -- s is s₀ with zeros before place i
@@ -53,14 +54,7 @@ pub six-bytes : (s : Setting)
 unfolding settingBytes digits
 six-bytes s = sym (rw (div-one (s .quota), div-one (s .days), div-one (s .server), div-one (s .principal)))
 
--- zeros past n of them
-drop-zeros : (n m size : ℕ) → size ≡ n + m → drop n (zeros size) ≡ zeros m
-drop-zeros n m size e =
-    ap (λ (k : ℕ). drop n (zeros k)) e
-    ∙ ap (drop n) (sym (replicate-append-replicate n m 0))
-    ∙ drop-at (zeros n) (zeros m) n (length-replicate n 0)
-
--- version 1 and the used length
+-- version 2 and the used length
 abbrev start : List ℕ
 start = 2 ∷ 0 ∷ 0 ∷ 0 ∷ 101 ∷ []
 
@@ -69,53 +63,28 @@ module _ (quotas ids principals : List ℕ) where
   abbrev firstBytes : ℕ → ℕ → List ℕ
   firstBytes t n = allBytes settingBytes (eachFrom (firstSetting quotas ids principals) t n)
 
-  -- s with these put at their place
-  abbrev putFrom : ℕ → ℕ → List ℕ → List ℕ
-  putFrom t n s = placed (settingPlace t) (firstBytes t n) s
-
   first-size : (t n : ℕ) → length (firstBytes t n) ≡ 6 * n
   first-size t n = settings-size (eachFrom (firstSetting quotas ids principals) t n) ∙ ap (λ (m : ℕ). 6 * m) (each-count (firstSetting quotas ids principals) t n)
 
-  -- s has the settings of the tenants before t, and with those from t on it has them all
+  -- s has the settings of the tenants before t
   pub record SettingsPut (s₀ s : List ℕ) (t : ℕ) : Type 0 where
-    pub few : t ≤ 16
-    pub room : 101 ≤ length s
-    pub same : length s ≡ length s₀
-    pub rest : putFrom t (16 - t) s ≡ putFrom 0 16 s₀
+    pub put : AllPut settingSize settingBytes settingPlace (firstSetting quotas ids principals) 16 s₀ s t
 
-  pub settings-none : {s₀ : List ℕ} → 101 ≤ length s₀ → SettingsPut s₀ s₀ 0
-  settings-none room = record { few = omega arith; room = room; same = refl; rest = refl }
+  pub settings-none : {s₀ : List ℕ} → recordsPlace ≤ length s₀ → SettingsPut s₀ s₀ 0
+  settings-none room = record { put = put-none settingSize settingBytes settingPlace (firstSetting quotas ids principals) 16 room }
 
   module _ {s₀ s : List ℕ} {t : ℕ} (so-far : SettingsPut s₀ s t) where
     pub settings-next : t < 16 → (x : Setting) (s₁ : List ℕ) → x ≡ firstSetting quotas ids principals t
         → s₁ ≡ placed (settingPlace t) (settingBytes x) s → SettingsPut s₀ s₁ (t + 1)
-    unfolding eachFrom allBytes
     settings-next more x s₁ is written =
-        let count : 16 - t ≡ suc (16 - (t + 1)) = omega arith in
-        let next : suc t ≡ t + 1 = omega arith in
-        let one = settingBytes (firstSetting quotas ids principals t) in
-        let put : s₁ ≡ placed (settingPlace t) one s = written ∙ ap (λ (y : Setting). placed (settingPlace t) (settingBytes y) s) is in
-        let size : length s₁ ≡ length s = ap length put ∙ length-placed (settingPlace t) one s in
-        let after = firstBytes (t + 1) (16 - (t + 1)) in
-        let one-size : length one ≡ 6 = setting-size (firstSetting quotas ids principals t) in
-        let after-size : length after ≡ 6 * (16 - (t + 1)) = first-size (t + 1) (16 - (t + 1)) in
+        let here : s₁ ≡ placed (settingPlace t) (settingBytes (firstSetting quotas ids principals t)) s =
+        written ∙ ap (λ (y : Setting). placed (settingPlace t) (settingBytes y) s) is in
         record {
-          few = omega arith;
-          room = omega (arith, so-far .room);
-          same = size ∙ so-far .same;
-          rest =
-              ap (placed (settingPlace (t + 1)) after) put
-              ∙ placed-next (settingPlace t) (settingPlace (t + 1)) one after s (omega arith) (omega (arith, so-far .room))
-              ∙ ap (λ (u : ℕ). placed (settingPlace t) (one ++ firstBytes u (16 - (t + 1))) s) (sym next)
-              ∙ ap (λ (n : ℕ). putFrom t n s) (sym count)
-              ∙ so-far .rest;
+          put = put-next settingSize settingBytes settingPlace (firstSetting quotas ids principals) 16 setting-size (λ i. omega arith) (so-far .put) more s₁ here;
         }
 
     pub settings-all : 16 ≤ t → s ≡ placed 5 (firstBytes 0 16) s₀
-    unfolding eachFrom allBytes
-    settings-all done =
-        let none : 0 ≡ 16 - t = omega arith in
-        sym (placed-none (settingPlace t) s) ∙ ap (λ (n : ℕ). putFrom t n s) none ∙ so-far .rest
+    settings-all done = put-all settingSize settingBytes settingPlace (firstSetting quotas ids principals) 16 setting-size (λ i. omega arith) (so-far .put) done
 
   abbrev emptyBytes : List ℕ
   emptyBytes = bookBytes (emptyBook quotas ids principals)

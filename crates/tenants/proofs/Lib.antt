@@ -17,3 +17,4 @@ pub mod Depends
 pub mod Branches
 pub mod MixedLists
 pub mod MixedAnswers
+pub mod Version1

@@ -42,7 +42,7 @@ loop-again c =
     settings-next _ _ _ (now .inv) (omega arith) _ _ (c .before .before .before .first-setting .ensures) (c .before .before .put-setting .ensures)
 
 same-length : tie.Need-same-length Inv-loop μ-loop
-same-length c = c .before .loop .inv .same
+same-length c = c .before .loop .inv .put .same
 
 returns : tie.Need-returns Inv-loop μ-loop
 returns c = settings-all _ _ _ (c .before .loop .inv) (omega arith)
