@@ -20,6 +20,8 @@ use Rattle.layout.specs.Layout.{two, bookOfBy, isBookBy, recordsPlace, bookSize
 use Rattle.judging.specs.Starts.{startOf, firstIn}
 use Rattle.judging.specs.Judging.{isZero, settingsTest, principalsTest, frameTest, partsFrom}
 use Rattle.judging.specs.declared.Part.the-variants.{Ends}
+use Rattle.layout.proofs.Decides.{part-fails}
+use Rattle.layout.proofs.Decides as decides
 use Rattle.layout.proofs.Promises.{undamaged-says}
 use Rattle.layout.proofs.Each.{each-count}
 use Rattle.layout.proofs.Frame.{Frame, frame-written, book-frame}
@@ -81,16 +83,14 @@ module _ (s : List ℕ) where
 
   -- where a test that must be true is false, or a fact that must be so is not, the frame is wrong
   pub test-fails : (test : Bool) → (Framed s → test ≡ true) → test ≡ false → frameTest s ≡ false
-  test-fails test must fails =
-      either (frameTest s) (λ right. right ∙ sym (must (frame-facts right)) ∙ fails) (λ wrong. wrong)
+  test-fails = part-fails (frameTest s) frame-facts framed-test
 
   pub fact-fails : (Framed s → ⊥) → frameTest s ≡ false
-  fact-fails never = either (frameTest s) (λ right. absurd (never (frame-facts right))) (λ wrong. wrong)
+  fact-fails = decides.fact-fails (frameTest s) frame-facts framed-test
 
   -- the last test decides
   pub last-decides : (last : Bool) → (Framed s → last ≡ true) → (last ≡ true → Framed s) → last ≡ frameTest s
-  last-decides last must enough =
-      same-tests last (frameTest s) (λ true-here. framed-test (enough true-here)) (λ right. must (frame-facts right))
+  last-decides = decides.last-decides (frameTest s) frame-facts framed-test
 
 module _ (s : List ℕ) (below : Below 256 s) where
   abbrev n : ℕ

@@ -33,7 +33,7 @@ pub enum Judged {
 }
 
 // Whether all bytes are zero; without leaving early, so that the compiler takes many at a time.
-fn is_zero(s: &[u8]) -> bool
+pub fn is_zero(s: &[u8]) -> bool
     ensures { λ r. ⌜ r ≡ allOf isZero (now (s .entry)) ⌝ }
 {
     let mut all: u8 = 0;

@@ -2,6 +2,7 @@ pub mod Versions
 pub mod Each
 pub mod AllPut
 pub mod AllFrom
+pub mod Decides
 pub mod Told
 pub mod Sizes
 pub mod Fits

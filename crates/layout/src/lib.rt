@@ -1,19 +1,27 @@
 // The book's bytes: what they say.
 ghost use mathlib.Core.Path.{_≡_};
-ghost use Rattle.layout.specs.Layout.{recordCount, settingAt, listIn};
+ghost use Prim.Native.Nat.{_-_, _/_, _<_};
+ghost use Rattle.bytes.specs.Places.{numberAt};
+ghost use Rattle.layout.specs.Layout.{one, recordsPlace, recordCountBy, recordCount, settingAt, listIn};
 use bytes::numbers::number16;
 use bytes::numbers::number32;
 use tenants::Setting;
 use text::reading::byte_at;
 
-// How many bytes a book has.
+// How many bytes a book has: one of version 2, which the calls read and write.
 pub const BOOK_SIZE: usize = 14437;
+
+// How many a version 1 book has, which is carried over.
+pub const OLD_BOOK_SIZE: usize = 12389;
 
 // How many bytes a setting has.
 pub const SETTING_SIZE: usize = 6;
 
 // How many bytes a record has.
 pub const RECORD_SIZE: usize = 28;
+
+// How many one of version 1 has.
+pub const OLD_RECORD_SIZE: usize = 24;
 
 // Where the settings begin.
 pub const SETTINGS_PLACE: usize = 5;
@@ -24,16 +32,31 @@ pub const RECORDS_PLACE: usize = 101;
 // How many records there are at most; the quotas sum to no more.
 pub const MOST_RECORDS: usize = 512;
 
-// How many records the used length tells.
-pub fn count(book: &[u8]) -> usize
-    ensures { λ r. ⌜ r ≡ recordCount (now (book .entry)) ⌝ }
+// How many records of a size the used length tells.
+fn counted(book: &[u8], size: usize) -> usize
+    requires { ⌜ 0 < size ⌝ }
+    ensures { λ r. ⌜ r ≡ (numberAt 4 (now (book .entry)) 1 - recordsPlace) / size ⌝ }
 {
     let used = number32(book, 1) as usize;
     if used < RECORDS_PLACE {
         0
     } else {
-        (used - RECORDS_PLACE) / RECORD_SIZE
+        (used - RECORDS_PLACE) / size
     }
+}
+
+// How many records there are.
+pub fn count(book: &[u8]) -> usize
+    ensures { λ r. ⌜ r ≡ recordCount (now (book .entry)) ⌝ }
+{
+    counted(book, RECORD_SIZE)
+}
+
+// How many there are in a version 1 book.
+pub fn old_count(book: &[u8]) -> usize
+    ensures { λ r. ⌜ r ≡ recordCountBy one (now (book .entry)) ⌝ }
+{
+    counted(book, OLD_RECORD_SIZE)
 }
 
 // The setting of a tenant.

@@ -9,7 +9,8 @@ use Rattle.bytes.specs.Numbers.{bytesOf}
 use Rattle.bytes.proofs.Digits.{digits-length}
 use Rattle.tenants.specs.Together.{BookRecord}
 use Rattle.tenants.specs.declared.Setting.{Setting}
-use Rattle.layout.specs.Layout.{two, 
+use Rattle.layout.specs.Layout.{
+  two,
   recordSize,
   zeros,
   settingBytes,

@@ -1,0 +1,3 @@
+pub mod OldForms
+pub mod OldBooks
+pub mod Puts

@@ -1,0 +1,2 @@
+pub mod Carrying
+pub mod OldForm
