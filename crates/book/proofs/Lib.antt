@@ -11,3 +11,5 @@ pub mod House
 pub mod NoBranches
 pub mod EitherCases
 pub mod IssuedCapitals
+pub mod LastExpiries
+pub mod Carried

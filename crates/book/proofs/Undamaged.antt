@@ -35,7 +35,7 @@ module _ (s : List ℕ) (t : ℕ) (undamaged : isBook s ≡ true) where
   bytes-say (refuses n) = sym (written-so s undamaged)
 
   -- the bytes afterwards are those of the changed book
-  after-says : (call : Call) → bookAfter t call s ≡ bookBytes (changed t (changeOf t call (ownIn s t)) (bookOf s))
+  pub after-says : (call : Call) → bookAfter t call s ≡ bookBytes (changed t (changeOf t call (ownIn s t)) (bookOf s))
   unfolding entry withdrawal newDays
   after-says (enter cell) = rw undamaged (bytes-say (entering t cell (ownIn s t)))
   after-says (withdraw name) = rw undamaged (bytes-say (withdrawing t name (ownIn s t)))

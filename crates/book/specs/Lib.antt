@@ -7,3 +7,5 @@ pub mod House
 pub mod Quotas
 pub mod NoBranches
 pub mod EitherCase
+pub mod LastExpiry
+pub mod Carried
