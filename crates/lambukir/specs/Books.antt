@@ -12,8 +12,8 @@ use Rattle.lambukir.specs.declared.books.RecordsMoved.{RecordsMoved}
 use Rattle.lambukir.specs.Texts.{oneIf}
 
 -- a cell that is entered
-abbrev pub heldOf : ℕ → ℕ → ℕ → ℕ → Held
-heldOf name edition key1 key2 = record { name = name; edition = edition; key1 = key1; key2 = key2 }
+abbrev pub heldOf : ℕ → ℕ → ℕ → ℕ → ℕ → Held
+heldOf name edition key1 key2 last = record { name = name; edition = edition; key1 = key1; key2 = key2; last = last }
 
 -- an edition that was asked for
 abbrev pub editionAsked : Asked → EditionAsked

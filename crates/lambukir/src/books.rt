@@ -5,6 +5,7 @@ ghost use Rattle.forms.specs.Output.{writtenOf, lentAfter};
 ghost use Rattle.forms.specs.Output as output;
 ghost use Rattle.tenants.specs.Rules.{changeNumber};
 ghost use Rattle.opening.specs.Opening.{opened};
+ghost use Rattle.carrying.specs.Carrying.{carriedOver};
 ghost use Rattle.changing.specs.Changing.{entry, withdrawal, newDays, bytesAfter};
 ghost use Rattle.changing.specs.House.{houseAnswer};
 ghost use Rattle.asking.specs.Asking.{editionIn, holdingIn, issuedFrom, checkedBy};
@@ -64,6 +65,14 @@ pub extern "C" fn lambukir_open_book(
 }
 
 #[no_mangle]
+pub extern "C" fn lambukir_carry_over(book: &[u8], new: &mut [u8]) -> u32
+    ensures { λ r. ⌜ (r ≡ output.writtenNumber (writtenOf (carriedOver (now (book .entry)) (length (now (new .entry))))))
+        × (now (new .exit) ≡ lentAfter (carriedOver (now (book .entry)) (length (now (new .entry)))) (now (new .entry))) ⌝ }
+{
+    carrying::carry_over(book, new)
+}
+
+#[no_mangle]
 pub extern "C" fn lambukir_enter(
     book: &mut [u8],
     tenant: u32,
@@ -71,15 +80,17 @@ pub extern "C" fn lambukir_enter(
     edition: u32,
     key1: u64,
     key2: u64,
+    last: u32,
 ) -> u32
-    ensures { λ r. ⌜ (r ≡ changeNumber (entry (now (book .entry)) tenant (heldOf name edition key1 key2)))
-        × (now (book .exit) ≡ bytesAfter tenant (entry (now (book .entry)) tenant (heldOf name edition key1 key2)) (now (book .entry))) ⌝ }
+    ensures { λ r. ⌜ (r ≡ changeNumber (entry (now (book .entry)) tenant (heldOf name edition key1 key2 last)))
+        × (now (book .exit) ≡ bytesAfter tenant (entry (now (book .entry)) tenant (heldOf name edition key1 key2 last)) (now (book .entry))) ⌝ }
 {
     let cell = Held {
         name,
         edition,
         key1,
         key2,
+        last,
     };
     changing::enter(book, tenant, cell)
 }
@@ -108,15 +119,17 @@ pub extern "C" fn lambukir_house_enter(
     edition: u32,
     key1: u64,
     key2: u64,
+    last: u32,
 ) -> RecordsMoved
-    ensures { λ r. ⌜ (r ≡ recordsMoved (houseAnswer tenant (now (book .entry)) (entry (now (book .entry)) tenant (heldOf name edition key1 key2))))
-        × (now (book .exit) ≡ bytesAfter tenant (entry (now (book .entry)) tenant (heldOf name edition key1 key2)) (now (book .entry))) ⌝ }
+    ensures { λ r. ⌜ (r ≡ recordsMoved (houseAnswer tenant (now (book .entry)) (entry (now (book .entry)) tenant (heldOf name edition key1 key2 last))))
+        × (now (book .exit) ≡ bytesAfter tenant (entry (now (book .entry)) tenant (heldOf name edition key1 key2 last)) (now (book .entry))) ⌝ }
 {
     let cell = Held {
         name,
         edition,
         key1,
         key2,
+        last,
     };
     records_moved(changing::house::enter(book, tenant, cell))
 }

@@ -31,10 +31,11 @@ rows =
     ∷ (105, "the quota is used")
     ∷ (106, "the user permit is not 28 of 0-9 A-F a-f")
     ∷ (107, "the M_ID is not in the register")
-    ∷ (108, "the output is too short")
+    ∷ (108, "the output is too short, or not of a book's length")
     ∷ (109, "the register is damaged")
     ∷ (110, "a cell has two rows in the product list")
     ∷ (111, "a branch cannot enter or withdraw")
+    ∷ (112, "the expiry is later than the cell's last expiry")
     ∷ []
 
 -- what a number means by some rows

@@ -40,10 +40,11 @@ pub fn meaning(number: u32) -> [u8; 64]
         105 => spelled(b"the quota is used"),
         106 => spelled(b"the user permit is not 28 of 0-9 A-F a-f"),
         107 => spelled(b"the M_ID is not in the register"),
-        108 => spelled(b"the output is too short"),
+        108 => spelled(b"the output is too short, or not of a book's length"),
         109 => spelled(b"the register is damaged"),
         110 => spelled(b"a cell has two rows in the product list"),
         111 => spelled(b"a branch cannot enter or withdraw"),
+        112 => spelled(b"the expiry is later than the cell's last expiry"),
         _ => spelled(b"a number that no call gives"),
     }
 }

@@ -149,8 +149,14 @@ spelled-requires-22 c κs = search needs
 slice-aggregate-spelled-23 : tie.Need-slice-aggregate-spelled-23
 slice-aggregate-spelled-23 c = search needs
 
+slice-aggregate-spelled-24 : tie.Need-slice-aggregate-spelled-24
+slice-aggregate-spelled-24 c = search needs
+
 spelled-requires-23 : tie.Need-spelled-requires-23
 spelled-requires-23 c κs = search needs
+
+spelled-requires-24 : tie.Need-spelled-requires-24
+spelled-requires-24 c κs = search needs
 
 returns : tie.Need-returns
 unfolding meaningBy
@@ -242,7 +248,11 @@ returns-22 c = c .spelled22 .ensures ∙ ap meant (sym (c .before .before .match
 
 returns-23 : tie.Need-returns-23
 unfolding meaningBy
-returns-23 c = c .spelled23 .ensures ∙ ap spelled (sym (all-missed _ rows _ (c .before .before .match .rest) .1))
+returns-23 c = c .spelled23 .ensures ∙ ap meant (sym (c .before .before .match .keys23))
+
+returns-24 : tie.Need-returns-24
+unfolding meaningBy
+returns-24 c = c .spelled24 .ensures ∙ ap spelled (sym (all-missed _ rows _ (c .before .before .match .rest) .1))
 
 pub meaning-spec : {M : Type 1} → statement M
 meaning-spec =
@@ -294,6 +304,8 @@ meaning-spec =
     spelled-requires-22
     slice-aggregate-spelled-23
     spelled-requires-23
+    slice-aggregate-spelled-24
+    spelled-requires-24
     returns
     returns-2
     returns-3
@@ -316,4 +328,5 @@ meaning-spec =
     returns-20
     returns-21
     returns-22
-    returns-23)
+    returns-23
+    returns-24)
