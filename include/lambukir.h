@@ -176,7 +176,7 @@
 #define LAMBUKIR_LINE_READ_SIZE 160 /* the longest line read, without CR LF */
 #define LAMBUKIR_REGISTER_SIZE 1792 /* the longest register: 256 entries */
 #define LAMBUKIR_BOOK_SIZE 14437
-#define LAMBUKIR_BOOK_SIZE_1 12389  /* a book of version 1, for carrying it over */
+#define LAMBUKIR_BOOK_SIZE_1 12389  /* a book of version 1, to carry over */
 #define LAMBUKIR_TENANTS 16         /* how many tenants a book has */
 #define LAMBUKIR_CELLS 512          /* the most cells of a book, all tenants' */
 #define LAMBUKIR_IDS_SIZE 32        /* the Data Server IDs of all tenants */
