@@ -55,6 +55,16 @@ static void worked(void)
     expect_issued(name, 20250630, 0);
 }
 
+/* A full book of eight tenants, each with a branch. */
+static void fill_with_branches(void)
+{
+    for (size_t t = 0; t < TENANTS; t++) {
+        quotas[t] = t < TENANTS / 2 ? MOST / (TENANTS / 2) : 0;
+        principals[t] = (uint8_t)(t < TENANTS / 2 ? 0 : t - TENANTS / 2 + 1);
+    }
+    fill_book(MOST);
+}
+
 /* A tenant with cells to sell, its own or its principal's. */
 static uint32_t some_seller(void)
 {
@@ -81,7 +91,7 @@ static void issue_between(uint32_t last, uint32_t expiry, uint32_t level)
 /* Each limit of the calendar as the last expiry, none too; for these, the next day, and any date. */
 static void around(void)
 {
-    some_book(MOST, MOST);
+    fill_with_branches();
     for (size_t i = 0; i <= COUNT(limit_dates); i++)
         for (size_t j = 0; j < COUNT(limit_dates); j++)
             for (uint32_t level = 0; level < 2; level++) {
@@ -93,23 +103,32 @@ static void around(void)
             }
 }
 
-/* A number as the last expiry: of a cell that is entered again, and of one record or a few in a row of a full book. */
-static void compare_number(uint32_t number)
+/* A call on a full book in which one record or a few in a row have a number as the last expiry. */
+static void compare_records(uint32_t number, size_t first)
 {
     uint32_t tenant = some_seller();
-    call entered = some_call(random_below(2) ? ENTER : HOUSE_ENTER, tenant, held_name(tenant));
-    call asked = some_call((int)random_below(KINDS), tenant, entered.name);
-    size_t first = random_below(MOST), after = first + 1 + random_below(4);
-    ABOUT("%" PRIu32 " as the last expiry of an entered cell", number);
-    entered.last_expiry = number;
-    compare_call(book, BOOK, &lists, &entered);
-    ABOUT("%" PRIu32 " as the last expiry of records %zu to %zu", number, first, after - 1);
+    call c = some_call((int)random_below(KINDS), tenant, held_name(tenant));
+    size_t after = first + 1 + random_below(4);
+    ABOUT("%" PRIu32 " as the last expiry of records %zu to %zu: %s", number, first, after - 1, kind_names[c.kind]);
     memcpy(copy, book, BOOK);
     for (size_t n = first; n < after && n < MOST; n++)
         put32(copy + RECORDS + n * RECORD_SIZE + LAST_EXPIRY_AT, number);
     if (model_is_book(copy, BOOK))
         model_book_of_bytes(copy, &changed);
-    compare_call(copy, BOOK, &changed, &asked);
+    compare_call(copy, BOOK, &changed, &c);
+}
+
+/* A number as the last expiry: of a cell that is entered again, and of records at the book's start, at its end and anywhere. */
+static void compare_number(uint32_t number)
+{
+    uint32_t tenant = some_seller();
+    call c = some_call(random_below(2) ? ENTER : HOUSE_ENTER, tenant, held_name(tenant));
+    ABOUT("%" PRIu32 " as the last expiry of an entered cell", number);
+    c.last_expiry = number;
+    compare_call(book, BOOK, &lists, &c);
+    compare_records(number, 0);
+    compare_records(number, random_below(MOST));
+    compare_records(number, MOST - 1);
 }
 
 /* Every month and day of some years, those that there are and others; and numbers that share many bits with a date, or only the lower ones. */
@@ -117,7 +136,7 @@ static void numbers(void)
 {
     static const uint32_t years[] = {0, 1, 1000, 1899, 1900, 1904, 1999, 2000, 2023, 2024, 2100, 2400, 2999, 3000, 9999};
     memset(seen, 0, sizeof seen);
-    some_book(MOST, MOST);
+    fill_with_branches();
     for (size_t y = 0; y < COUNT(years); y++)
         for (uint32_t month = 0; month < 14; month++)
             for (uint32_t day = 0; day <= 40; day++)
