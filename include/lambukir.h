@@ -55,6 +55,7 @@
      update           0 to 999
      warning days     1 to 90
      tenant           0 to 15
+     last expiry      a date, or 0 for none: how late a cell may be sold
 
    A date is the number YYYYMMDD: 20240229. It is a day of the calendar of the
    years 1900 to 2999, or it is no date.
@@ -554,9 +555,9 @@ lambukir_product_standing(const uint8_t *list, size_t list_length,
 
    Producers tell agents how late a cell may be sold. A cell's last expiry is
    the latest that a line issued for it may have: a later one is 112, whatever
-   the level; that very day is not. 0 is none, and then any expiry may be issued.
-   It is entered with the cell, and another is entered with the cell again. No
-   other call goes by it: a line that was issued is read and checked as before.
+   the level; that very day is not. 0 is none, and then any date may be issued.
+   It is entered with the cell, and changed by entering the cell again. No other
+   call goes by it: a line that was issued is read and checked as before.
 
    Branches
 
@@ -564,11 +565,10 @@ lambukir_product_standing(const uint8_t *list, size_t list_length,
    branch sells from the same list. A branch's own cells are its principal's.
    It asks for editions and producers and issues from that list, no later than
    the last expiries there, and sees at once what the principal enters and
-   withdraws. Its Data Server ID and its
-   warning days are its own, and it sets these as any tenant does. It cannot
-   enter or withdraw (111), and its quota is 0. A principal has no principal
-   itself. It may have any number of branches, and a quota of 0, so that it has
-   nothing to sell.
+   withdraws. Its Data Server ID and its warning days are its own, and it sets
+   these as any tenant does. It cannot enter or withdraw (111), and its quota is
+   0. A principal has no principal itself. It may have any number of branches,
+   and a quota of 0, so that it has nothing to sell.
 
    A branch's call changes nobody's cells: whatever its branches do, a principal
    is answered what its own calls alone give. A branch's answers go by its own
@@ -578,11 +578,11 @@ lambukir_product_standing(const uint8_t *list, size_t list_length,
    differently, and the book at the end is still the same to the last byte.
 
    Every call but lambukir_open_book judges the whole book first, which takes a
-   microsecond or two where it is full, or a few where no last expiry is that of
-   the record before it. One of another length, or with a byte
-   that no book can have, is 101. What is judged is the form: a book in which a
-   key was changed is another good book, and the lines that are issued from it
-   unlock nothing.
+   microsecond or two where it is full, and longest where no record has the last
+   expiry of the one before it. One of another length, or with a byte that no
+   book can have, is 101, and so is one with a last expiry that is neither 0 nor
+   a date. What is judged is the form: a book in which a key was changed is
+   another good book, and the lines that are issued from it unlock nothing.
 
    How to keep a book (sample/keep.c does all of this)
 

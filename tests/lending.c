@@ -31,7 +31,7 @@ static const uint8_t principals[LAMBUKIR_TENANTS] = {0, 1};
 static void fill(slice s[SLICES])
 {
     lambukir_open_book(book, sizeof book, quotas, LAMBUKIR_TENANTS, (const uint8_t *)ids, LAMBUKIR_IDS_SIZE, principals, sizeof principals);
-    memcpy(book_1, book, 101); /* an empty book: but for the version it is that of version 1, as far as it is used */
+    memcpy(book_1, book, 101); /* empty, it differs from one of version 1 in its first byte and its length alone */
     book_1[0] = 1;
     lambukir_enter(book, sizeof book, 0, NAME, 10, 1, 2, EXPIRY);
     lambukir_make_user_permit((const uint8_t *)"0198765", 7, HW_ID, 0x3031, permit, sizeof permit);
