@@ -7,8 +7,9 @@
      CRC-32        48 bytes, as of a cell permit, another 48 each time
      permits       the calls of lambukir.h beside the model's of tests/, see permits.h: to refuse a line is to read one whose last byte is wrong
      book          the calls of lambukir.h beside book.h's, written by hand in C, see desk.h: enter and then withdraw, two calls, in a book with
-                   511 records, for a tenant and for the house; the others in a full one; judging is asking for a cell that is not there; a
-                   producer is asked for of a tenant with 32 cells, and of one with all 512, whose branches ask an edition
+                   511 records, for a tenant and for the house; the others in a full one; judging is asking for a cell that is not there, once
+                   where last expiries come in runs and once where each record has another one than that before it; a producer is asked for of
+                   a tenant with 32 cells, and of one with all 512, whose branches ask an edition; a full book of version 1 is carried over
      list          a ship's cell against a product list of 20,000 rows, beside products.h's, which sorts the names; against one that was made to be
                    slow, beside ours in name order; and against one of 10 rows, see service.h
      look-through  the program beside bench/look_through.c, each a process of its own: from before its start until it has ended;
@@ -132,6 +133,8 @@ int main(void)
     measure("ask producer", our_producer, their_producer, "plain C", 80);
     measure("  of 512 cells", our_long_walk, their_long_walk, "plain C", 80);
     measure("judge a book", our_judged, their_judged, "plain C", 80);
+    measure("  each date new", our_new_dates, their_new_dates, "plain C", 80);
+    measure("carry over", our_carried, their_carried, "plain C", 80);
     measure("issue", our_issue, their_issue, "plain C", 20);
     measure("check", our_check, their_check, "plain C", 20);
     if (!make_services()) {

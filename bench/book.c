@@ -1,12 +1,16 @@
 /* The book by hand, written for speed: one pass judges it, tenant by tenant, and tells where each tenant's records begin; a binary search among
-   the tenant's own finds a record, memmove makes and closes its room. Permits and lines are the model's. */
+   the tenant's own finds a record, memmove makes and closes its room. A version's judging is compiled for its records' size. Permits and lines are the
+   model's. */
 #include "book.h"
 #include "model_parts.h"
 
 #define SETTINGS 5
 #define SETTING 6
 #define RECORDS 101
-#define RECORD_SIZE 24
+#define RECORD_SIZE 28
+#define RECORD_SIZE_1 24 /* in a book of version 1, which has no last expiries */
+#define LAST_EXPIRY 24
+#define INLINED static inline __attribute__((always_inline))
 #define EACH(byte) ((byte) * 0x0101010101010101u)
 
 /* Where the records of each tenant begin, and where the last tenant's end. */
@@ -80,25 +84,40 @@ static bool is_cell_name(uint64_t x)
            (((x + EACH(0x80 - '0')) ^ (x + EACH(0x7f - '9')) ^ (x + EACH(0x80 - 'A')) ^ (x + EACH(0x7f - 'Z'))) & EACH(0x80)) == EACH(0x80);
 }
 
-/* Where the records of tenant t end that begin at r; null where one of them is wrong. */
-static const uint8_t *part_end(const uint8_t *r, const uint8_t *end, uint32_t t)
+/* 0 or a date; only the end of a month asks how long the month is. */
+static bool is_last_expiry(uint32_t number)
 {
-    for (uint64_t name = 0; r < end && r[0] == t; r += RECORD_SIZE) {
+    uint32_t year = number / 10000, month = number / 100 % 100, day = number % 100;
+    if (number == 0)
+        return true;
+    return year - 1900 < 1100 && month - 1 < 12 && day - 1 < 31 && (day <= 28 || day <= month_length(year, month));
+}
+
+/* Where the records of tenant t end that begin at r; null where one of them is wrong. A last expiry that was just judged is not judged again. */
+INLINED const uint8_t *part_end(const uint8_t *r, const uint8_t *end, uint32_t t, size_t record_size, uint32_t *judged)
+{
+    for (uint64_t name = 0; r < end && r[0] == t; r += record_size) {
         uint64_t next = read64(r + 1);
         if (next <= name || !is_cell_name(next) || read16(r + 9) - 1 >= 999 || (read32(r + 20) & 0xffffff) != 0)
             return NULL;
         name = next;
+        if (record_size > LAST_EXPIRY && read32(r + LAST_EXPIRY) != *judged) {
+            *judged = read32(r + LAST_EXPIRY);
+            if (!is_last_expiry(*judged))
+                return NULL;
+        }
     }
     return r;
 }
 
-static bool are_records(const uint8_t *book, size_t used, parts *found)
+INLINED bool are_records(const uint8_t *book, size_t used, size_t record_size, parts *found)
 {
     const uint8_t *r = book + RECORDS;
+    uint32_t judged = 0;
     for (uint32_t t = 0; t < TENANTS; t++) {
         found->starts[t] = r;
-        r = part_end(r, book + used, t);
-        if (r == NULL || (size_t)(r - found->starts[t]) > RECORD_SIZE * read16(book + SETTINGS + t * SETTING))
+        r = part_end(r, book + used, t, record_size, &judged);
+        if (r == NULL || (size_t)(r - found->starts[t]) > record_size * read16(book + SETTINGS + t * SETTING))
             return false;
     }
     found->starts[TENANTS] = r;
@@ -115,14 +134,26 @@ static bool are_zeros(const uint8_t *from, const uint8_t *to)
     return all == 0;
 }
 
-static bool is_book(const uint8_t *book, size_t length, parts *found)
+INLINED bool is_book_of(const uint8_t *book, size_t length, uint8_t version, size_t record_size, parts *found)
 {
-    if (length != LAMBUKIR_BOOK_SIZE || book[0] != 1)
+    size_t size = RECORDS + MOST_RECORDS * record_size;
+    if (length != size || book[0] != version)
         return false;
     uint32_t used = read32(book + 1);
-    if (used < RECORDS || used > LAMBUKIR_BOOK_SIZE || (used - RECORDS) % RECORD_SIZE != 0)
+    if (used < RECORDS || used > size || (used - RECORDS) % record_size != 0)
         return false;
-    return are_settings(book) && are_records(book, used, found) && are_zeros(book + used, book + LAMBUKIR_BOOK_SIZE);
+    return are_settings(book) && are_records(book, used, record_size, found) && are_zeros(book + used, book + size);
+}
+
+static bool is_book_1(const uint8_t *book, size_t length)
+{
+    parts found;
+    return is_book_of(book, length, 1, RECORD_SIZE_1, &found);
+}
+
+static bool is_book(const uint8_t *book, size_t length, parts *found)
+{
+    return is_book_of(book, length, 2, RECORD_SIZE, found);
 }
 
 /* The first of the tenant's records whose name is not below this one; past the last where all are. */
@@ -162,12 +193,31 @@ uint32_t plain_open_book(uint8_t *book, size_t book_length, const uint16_t *quot
     if (sum > MOST_RECORDS)
         return 103;
     memset(book, 0, LAMBUKIR_BOOK_SIZE);
-    book[0] = 1;
+    book[0] = 2;
     write32(book + 1, RECORDS);
     for (size_t t = 0; t < TENANTS; t++) {
         uint8_t setting[SETTING] = {(uint8_t)(quotas[t] >> 8), (uint8_t)quotas[t], 30, ids[2 * t], ids[2 * t + 1], principals[t]};
         memcpy(book + SETTINGS + t * SETTING, setting, SETTING);
     }
+    return 0;
+}
+
+uint32_t plain_carry_over(const uint8_t *book, size_t book_length, uint8_t *new_book, size_t new_book_length)
+{
+    if (!is_book_1(book, book_length))
+        return 101;
+    if (new_book_length != LAMBUKIR_BOOK_SIZE)
+        return 108;
+    const uint8_t *from = book + RECORDS, *end = book + read32(book + 1);
+    uint8_t *to = new_book + RECORDS;
+    memcpy(new_book, book, RECORDS);
+    for (; from < end; from += RECORD_SIZE_1, to += RECORD_SIZE) {
+        memcpy(to, from, RECORD_SIZE_1);
+        memset(to + LAST_EXPIRY, 0, RECORD_SIZE - LAST_EXPIRY);
+    }
+    memset(to, 0, (size_t)(new_book + LAMBUKIR_BOOK_SIZE - to));
+    new_book[0] = 2;
+    write32(new_book + 1, (uint32_t)(to - new_book));
     return 0;
 }
 
@@ -182,7 +232,8 @@ static bool make_room(uint8_t *book, const parts *found, uint32_t tenant, uint8_
     return true;
 }
 
-lambukir_moved plain_house_enter(uint8_t *book, size_t book_length, uint32_t tenant, uint64_t name, uint32_t edition, uint64_t key_one, uint64_t key_two)
+lambukir_moved plain_house_enter(uint8_t *book, size_t book_length, uint32_t tenant, uint64_t name, uint32_t edition, uint64_t key_one, uint64_t key_two,
+                                 uint32_t last_expiry)
 {
     parts found;
     lambukir_moved answer = {0};
@@ -190,7 +241,7 @@ lambukir_moved plain_house_enter(uint8_t *book, size_t book_length, uint32_t ten
         return (lambukir_moved){.number = 101};
     if (tenant >= TENANTS)
         return (lambukir_moved){.number = 102};
-    if (!is_cell_name(name) || edition - 1 >= 999 || (key_one | key_two) >> 40 != 0)
+    if (!is_cell_name(name) || edition - 1 >= 999 || (key_one | key_two) >> 40 != 0 || !is_last_expiry(last_expiry))
         return (lambukir_moved){.number = 103};
     if (principal_of(book, tenant) != 0)
         return (lambukir_moved){.number = 111};
@@ -205,12 +256,14 @@ lambukir_moved plain_house_enter(uint8_t *book, size_t book_length, uint32_t ten
     write_first(r + 9, 2, (uint64_t)edition << 48);
     write_first(r + 11, 5, key_one << 24);
     write_first(r + 16, 8, key_two << 24);
+    write32(r + LAST_EXPIRY, last_expiry);
     return answer;
 }
 
-uint32_t plain_enter(uint8_t *book, size_t book_length, uint32_t tenant, uint64_t name, uint32_t edition, uint64_t key_one, uint64_t key_two)
+uint32_t plain_enter(uint8_t *book, size_t book_length, uint32_t tenant, uint64_t name, uint32_t edition, uint64_t key_one, uint64_t key_two,
+                     uint32_t last_expiry)
 {
-    return plain_house_enter(book, book_length, tenant, name, edition, key_one, key_two).number;
+    return plain_house_enter(book, book_length, tenant, name, edition, key_one, key_two, last_expiry).number;
 }
 
 lambukir_moved plain_house_withdraw(uint8_t *book, size_t book_length, uint32_t tenant, uint64_t name)
@@ -314,6 +367,8 @@ lambukir_written plain_issue(const uint8_t *book, size_t book_length, const uint
     const uint8_t *r = place_of(&found, list, name), *setting = book + SETTINGS + tenant * SETTING;
     if (!is_held(&found, r, list, name))
         return (lambukir_written){.number = 104};
+    if (read32(r + LAST_EXPIRY) != 0 && expiry > read32(r + LAST_EXPIRY))
+        return (lambukir_written){.number = 112};
     return model_write_line(ship.hw_id, name, expiry, number_of(r + 11, 5), number_of(r + 16, 5), level, read16(r + 9), read16(setting + 3), out, out_length);
 }
 

@@ -9,9 +9,12 @@
 
 uint32_t plain_open_book(uint8_t *book, size_t book_length, const uint16_t *quotas, size_t quotas_length, const uint8_t *ids, size_t ids_length,
                          const uint8_t *principals, size_t principals_length);
-uint32_t plain_enter(uint8_t *book, size_t book_length, uint32_t tenant, uint64_t name, uint32_t edition, uint64_t key_one, uint64_t key_two);
+uint32_t plain_carry_over(const uint8_t *book, size_t book_length, uint8_t *new_book, size_t new_book_length);
+uint32_t plain_enter(uint8_t *book, size_t book_length, uint32_t tenant, uint64_t name, uint32_t edition, uint64_t key_one, uint64_t key_two,
+                     uint32_t last_expiry);
 uint32_t plain_withdraw(uint8_t *book, size_t book_length, uint32_t tenant, uint64_t name);
-lambukir_moved plain_house_enter(uint8_t *book, size_t book_length, uint32_t tenant, uint64_t name, uint32_t edition, uint64_t key_one, uint64_t key_two);
+lambukir_moved plain_house_enter(uint8_t *book, size_t book_length, uint32_t tenant, uint64_t name, uint32_t edition, uint64_t key_one, uint64_t key_two,
+                                 uint32_t last_expiry);
 lambukir_moved plain_house_withdraw(uint8_t *book, size_t book_length, uint32_t tenant, uint64_t name);
 uint32_t plain_set_days(uint8_t *book, size_t book_length, uint32_t tenant, uint32_t days);
 lambukir_edition plain_ask_edition(const uint8_t *book, size_t book_length, uint32_t tenant, uint64_t name);

@@ -55,6 +55,7 @@
      update           0 to 999
      warning days     1 to 90
      tenant           0 to 15
+     last expiry      a date, or 0 for none: how late a cell may be sold
 
    A date is the number YYYYMMDD: 20240229. It is a day of the calendar of the
    years 1900 to 2999, or it is no date.
@@ -127,9 +128,9 @@
 /* The version of this header: as text, and as a number, 10000 for the first of
    its three, 100 for the second and 1 for the third. While the first is 0, a
    new second number may change the interface, and the shared library's name
-   changes with it (liblambukir.so.0.11). */
-#define LAMBUKIR_VERSION "0.11.0"
-#define LAMBUKIR_VERSION_NUMBER 1100
+   changes with it (liblambukir.so.0.12). */
+#define LAMBUKIR_VERSION "0.12.0"
+#define LAMBUKIR_VERSION_NUMBER 1200
 
 /* The numbers that come back
 
@@ -160,12 +161,14 @@
 #define LAMBUKIR_REGISTER_DAMAGED 109 /* the register is damaged */
 #define LAMBUKIR_CELL_TWICE 110       /* a cell has two rows in the product list */
 #define LAMBUKIR_BRANCH 111           /* a branch cannot enter or withdraw */
+#define LAMBUKIR_TOO_LATE 112         /* the expiry is later than the cell's last expiry */
 
 /* Of a record 0 says that its permit is current; 15 and 20 are for subscriptions
    alone. 12 is also for a date in a line, row or header that is none; 18 for a
    HW_ID that was given, or that a user permit holds, in which a small letter is
    wrong; with 21 the check part is right. Each function says of which values it
-   gives 103, and for how short an output 108. */
+   gives 103, and for how short an output 108, which lambukir_carry_over gives
+   for one that is too long, too. */
 #define LAMBUKIR_CURRENT LAMBUKIR_DONE
 
 /* Sizes, in bytes where nothing else is said. */
@@ -173,7 +176,8 @@
 #define LAMBUKIR_LINE_SIZE 76       /* the longest line written, with CR LF */
 #define LAMBUKIR_LINE_READ_SIZE 160 /* the longest line read, without CR LF */
 #define LAMBUKIR_REGISTER_SIZE 1792 /* the longest register: 256 entries */
-#define LAMBUKIR_BOOK_SIZE 12389
+#define LAMBUKIR_BOOK_SIZE 14437
+#define LAMBUKIR_BOOK_SIZE_1 12389  /* a book of version 1, to carry over */
 #define LAMBUKIR_TENANTS 16         /* how many tenants a book has */
 #define LAMBUKIR_CELLS 512          /* the most cells of a book, all tenants' */
 #define LAMBUKIR_IDS_SIZE 32        /* the Data Server IDs of all tenants */
@@ -522,15 +526,18 @@ lambukir_product_standing(const uint8_t *list, size_t list_length,
 /* The book
 
    A book holds the cell keys of sixteen tenants, who are the agents of one
-   permit desk: at most 512 cells in all. It is a slice of 12,389 bytes
+   permit desk: at most 512 cells in all. It is a slice of 14,437 bytes
    (LAMBUKIR_BOOK_SIZE) that the caller keeps, in memory and in a file; nothing
    else is kept anywhere. lambukir_open_book makes the first one, and from then
    on it is changed by lambukir_enter, lambukir_withdraw and lambukir_set_days
    alone, or by the first two in the house's form (see "For the house alone").
+   Where there is a book of version 1, lambukir_carry_over makes the first one
+   of that (see "How to carry a book of version 1 over").
 
    A tenant is a number from 0 to 15. It has
 
-     its cells         each a name, an edition and two keys; a name once at most
+     its cells         each a name, an edition, two keys and a last expiry, or
+                       none; a name once at most
      a quota           the most cells that it may hold; the sixteen quotas sum
                        to at most 512, so that its room is its own, whatever the
                        others hold
@@ -544,16 +551,24 @@ lambukir_product_standing(const uint8_t *list, size_t list_length,
    theirs, the book at the end is the same to the last byte, and so is every
    answer, but for those of branches.
 
+   Last expiries
+
+   Producers tell agents how late a cell may be sold. A cell's last expiry is
+   the latest that a line issued for it may have: a later one is 112, whatever
+   the level; that very day is not. 0 is none, and then any date may be issued.
+   It is entered with the cell, and changed by entering the cell again. No other
+   call goes by it: a line that was issued is read and checked as before.
+
    Branches
 
    A tenant may be opened as a branch of another, its principal: an agent whose
    branch sells from the same list. A branch's own cells are its principal's.
-   It asks for editions and producers and issues from that list, and sees at
-   once what the principal enters and withdraws. Its Data Server ID and its
-   warning days are its own, and it sets these as any tenant does. It cannot
-   enter or withdraw (111), and its quota is 0. A principal has no principal
-   itself. It may have any number of branches, and a quota of 0, so that it has
-   nothing to sell.
+   It asks for editions and producers and issues from that list, no later than
+   the last expiries there, and sees at once what the principal enters and
+   withdraws. Its Data Server ID and its warning days are its own, and it sets
+   these as any tenant does. It cannot enter or withdraw (111), and its quota is
+   0. A principal has no principal itself. It may have any number of branches,
+   and a quota of 0, so that it has nothing to sell.
 
    A branch's call changes nobody's cells: whatever its branches do, a principal
    is answered what its own calls alone give. A branch's answers go by its own
@@ -563,10 +578,11 @@ lambukir_product_standing(const uint8_t *list, size_t list_length,
    differently, and the book at the end is still the same to the last byte.
 
    Every call but lambukir_open_book judges the whole book first, which takes a
-   microsecond or two where it is full. One of another length, or with a byte
-   that no book can have, is 101. What is judged is the form: a book in which a
-   key was changed is another good book, and the lines that are issued from it
-   unlock nothing.
+   microsecond or two where it is full, and longest where no record has the last
+   expiry of the one before it. One of another length, or with a byte that no
+   book can have, is 101, and so is one with a last expiry that is neither 0 nor
+   a date. What is judged is the form: a book in which a key was changed is
+   another good book, and the lines that are issued from it unlock nothing.
 
    How to keep a book (sample/keep.c does all of this)
 
@@ -590,9 +606,30 @@ lambukir_product_standing(const uint8_t *list, size_t list_length,
      memory and saved once; a refusal among them leaves the copy as it was.
    - After a refusal there is nothing to write: every byte is as it was.
    - A book that gives 101 stays damaged. Take the last good copy.
-   - A book's first byte is the version of its form, 1, and every library whose
+   - A book's first byte is the version of its form, 2, and every library whose
      books have that form reads it. A library with another form refuses it (101)
-     and brings a call that carries it over. */
+     and brings a call that carries it over.
+
+   How to carry a book of version 1 over (sample/keep.c does this, too)
+
+   Libraries before 0.12 kept books of version 1, which have no last expiries.
+   Every call but lambukir_carry_over refuses them (101).
+
+   - Stop the programs that change the book, or take the lock that they take,
+     and hold it until the last step is done: what the old library changes after
+     the carry-over is not in the new book.
+   - Read the old file, LAMBUKIR_BOOK_SIZE_1 bytes and four more, and compare
+     the CRC-32 as ever.
+   - Call lambukir_carry_over with the old book and a second buffer. Only that
+     one is written.
+   - Write the new book, with a CRC-32 of its own, to a new file beside the old
+     one, sync it, rename it to a name that no file has, and sync the directory.
+     A crash leaves the old file alone, or the old one and the whole new one.
+   - Let programs over this library alone work from now on, with the new file,
+     and keep the old one: it is the book as it was on that day.
+   - A book is carried over once. There is no way back: no call makes a book of
+     version 1, and the old library refuses the new book (101). To carry the old
+     file over again is to lose what was changed since. */
 
 /* ERASES the book, and makes an empty one: no cells, warning days 30, and for
    tenant t the quota quotas[t], the Data Server ID that stands at ids + 2 * t,
@@ -614,16 +651,33 @@ lambukir_open_book(uint8_t *book, size_t book_length,
                    const uint8_t *ids, size_t ids_length,
                    const uint8_t *principals, size_t principals_length);
 
+/* Writes to new_book what a book of version 1 becomes: the book with the same
+   settings and the same cells, none of them with a last expiry; and answers 0.
+   What was in new_book before is neither looked at nor kept. book is only read.
+
+   As long as every cell is entered with last expiry 0, each call answers on the
+   new book what it answered on the old one, and carrying over before or after
+   such calls makes the same book to the last byte.
+
+   Refusals, in this order: 101, book is not an undamaged one of version 1, of
+   LAMBUKIR_BOOK_SIZE_1 bytes (a book of version 2 is 101, too); 108, new_book is
+   not LAMBUKIR_BOOK_SIZE bytes, and that is so for a longer one, too. */
+uint32_t
+lambukir_carry_over(const uint8_t *book, size_t book_length,
+                    uint8_t *new_book, size_t new_book_length);
+
 /* Enters a cell, and answers 0. Where the tenant holds one of that name, its
-   edition and keys are replaced, and the quota does not matter.
+   edition, keys and last expiry are replaced, and the quota does not matter.
+   last_expiry is a date, or 0 for none, which takes away one that was there.
 
    Refusals, in this order: 101; 102; 103, name, edition or a key is not of its
-   form or range; 111, the tenant is a branch; 105, the name is new, and the
-   tenant holds as many cells as its quota allows. */
+   form or range, or last_expiry is neither 0 nor a date; 111, the tenant is a
+   branch; 105, the name is new, and the tenant holds as many cells as its quota
+   allows. */
 uint32_t
 lambukir_enter(uint8_t *book, size_t book_length, uint32_t tenant,
                uint64_t name, uint32_t edition,
-               uint64_t key_one, uint64_t key_two);
+               uint64_t key_one, uint64_t key_two, uint32_t last_expiry);
 
 /* Takes a cell out of the book, and answers 0. Its room is free at once, for
    the same tenant, and its keys are no longer in the book.
@@ -677,7 +731,8 @@ lambukir_ask_producer(const uint8_t *book, size_t book_length, uint32_t tenant,
 
    Refusals, in this order: 101; 109; 102; 108, out has less than 76 bytes; 103,
    name, expiry or level is not of its form or range; 106; 17; 107; 18, all four
-   of the user permit; 104. */
+   of the user permit; 104; 112, the cell has a last expiry, and expiry is later
+   than it. */
 lambukir_written
 lambukir_issue(const uint8_t *book, size_t book_length,
                const uint8_t *reg, size_t reg_length,
@@ -720,7 +775,7 @@ typedef struct {
 lambukir_moved
 lambukir_house_enter(uint8_t *book, size_t book_length, uint32_t tenant,
                      uint64_t name, uint32_t edition,
-                     uint64_t key_one, uint64_t key_two);
+                     uint64_t key_one, uint64_t key_two, uint32_t last_expiry);
 
 lambukir_moved
 lambukir_house_withdraw(uint8_t *book, size_t book_length, uint32_t tenant,

@@ -13,6 +13,7 @@
 #define TODAY 20240131
 #define EXPIRY 20240331
 #define AFTERWARDS 20240401
+#define NONE 0 /* no last expiry: a cell that may be sold for any time */
 
 static uint8_t book[LAMBUKIR_BOOK_SIZE]; /* keep.c keeps one in a file */
 static const uint8_t reg[] = "0198765";  /* who makes bridge equipment: manufacturer 01 has the key 98765 */
@@ -42,10 +43,13 @@ static void open_book(void)
     tell(lambukir_open_book(book, sizeof book, quotas, LAMBUKIR_TENANTS, (const uint8_t *)ids, strlen(ids), principals, LAMBUKIR_TENANTS));
 }
 
-static void enter(uint32_t agent, const char *cell, uint32_t edition, uint64_t key_one, uint64_t key_two)
+static void enter(uint32_t agent, const char *cell, uint32_t edition, uint64_t key_one, uint64_t key_two, uint32_t last_expiry)
 {
-    printf("%s enters %s, edition %" PRIu32 ": ", agents[agent], cell, edition);
-    tell(lambukir_enter(book, sizeof book, agent, name_of(cell), edition, key_one, key_two));
+    printf("%s enters %s, edition %" PRIu32, agents[agent], cell, edition);
+    if (last_expiry != NONE)
+        printf(", last expiry %" PRIu32, last_expiry);
+    printf(": ");
+    tell(lambukir_enter(book, sizeof book, agent, name_of(cell), edition, key_one, key_two, last_expiry));
 }
 
 static void ask(uint32_t agent, const char *cell)
@@ -69,11 +73,11 @@ static void ask_producer(uint32_t agent, const char *producer)
 }
 
 /* Issues a permit to a ship, which is known by its user permit. The line goes to `line`; the answer is its length without CR LF, or 0. */
-static size_t issue(uint32_t agent, const char *cell, const uint8_t permit[LAMBUKIR_USER_PERMIT_SIZE], uint8_t line[LAMBUKIR_LINE_SIZE])
+static size_t issue(uint32_t agent, const char *cell, uint32_t expiry, const uint8_t permit[LAMBUKIR_USER_PERMIT_SIZE], uint8_t line[LAMBUKIR_LINE_SIZE])
 {
-    lambukir_written written = lambukir_issue(book, sizeof book, reg, 7, agent, name_of(cell), EXPIRY, LAMBUKIR_SUBSCRIPTION, permit,
+    lambukir_written written = lambukir_issue(book, sizeof book, reg, 7, agent, name_of(cell), expiry, LAMBUKIR_SUBSCRIPTION, permit,
                                               LAMBUKIR_USER_PERMIT_SIZE, line, LAMBUKIR_LINE_SIZE);
-    printf("%s issues %s until %d: ", agents[agent], cell, EXPIRY);
+    printf("%s issues %s until %" PRIu32 ": ", agents[agent], cell, expiry);
     tell(written.number);
     if (written.number != LAMBUKIR_DONE)
         return 0;
@@ -98,7 +102,7 @@ static void check(uint32_t agent, uint64_t hw_id, uint32_t today, const uint8_t 
 /* Enters a cell as the house, for an agent. How many records moved goes by what all of them hold: it is for the operator alone. */
 static void house_enter(uint32_t agent, const char *cell, uint32_t edition, uint64_t key_one, uint64_t key_two)
 {
-    lambukir_moved done = lambukir_house_enter(book, sizeof book, agent, name_of(cell), edition, key_one, key_two);
+    lambukir_moved done = lambukir_house_enter(book, sizeof book, agent, name_of(cell), edition, key_one, key_two, NONE);
     printf("The house enters %s for %s, which moves %" PRIu32 " records: ", cell, agents[agent], done.moved);
     tell(done.number);
 }
@@ -109,11 +113,11 @@ int main(void)
     uint8_t permit[LAMBUKIR_USER_PERMIT_SIZE], line[LAMBUKIR_LINE_SIZE];
 
     open_book();
-    enter(OSLO, "NO4D0613", 10, 0xC1CB518E9C, 0x421571CC66);
-    enter(HAMBURG, "DE416080", 3, 0x0102030405, 0x060708090A);
-    enter(HAMBURG, "NO4D0613", 11, 0xA1A2A3A4A5, 0xB1B2B3B4B5); /* its own cell: Oslo's stays as it is */
-    enter(HAMBURG, "DE416081", 1, 0x1112131415, 0x161718191A);
-    enter(HAMBURG, "DE4160810", 1, 0x1112131415, 0x161718191A); /* a character too many */
+    enter(OSLO, "NO4D0613", 10, 0xC1CB518E9C, 0x421571CC66, EXPIRY); /* no later than this, the producer says */
+    enter(HAMBURG, "DE416080", 3, 0x0102030405, 0x060708090A, NONE);
+    enter(HAMBURG, "NO4D0613", 11, 0xA1A2A3A4A5, 0xB1B2B3B4B5, NONE); /* its own cell: Oslo's stays as it is */
+    enter(HAMBURG, "DE416081", 1, 0x1112131415, 0x161718191A, NONE);
+    enter(HAMBURG, "DE4160810", 1, 0x1112131415, 0x161718191A, NONE); /* a character too many */
 
     if (lambukir_make_user_permit(reg, 7, hw_id, lambukir_code_from_text("01", 2), permit, sizeof permit) != LAMBUKIR_DONE)
         return 1;
@@ -121,7 +125,7 @@ int main(void)
     for (size_t i = 0; i < sizeof permit; i++)
         permit[i] = (uint8_t)tolower(permit[i]); /* which is as good */
     printf("The crew mails it in small letters: %.28s\n", (const char *)permit);
-    size_t length = issue(OSLO, "NO4D0613", permit, line);
+    size_t length = issue(OSLO, "NO4D0613", EXPIRY, permit, line);
     if (length == 0)
         return 1;
     check(OSLO, hw_id, TODAY, line, length);
@@ -133,11 +137,12 @@ int main(void)
     check(OSLO, hw_id, AFTERWARDS, line, length);
     check(OSLO, lambukir_hw_id_from_text("12345", 5), TODAY, line, length); /* another ship's */
 
-    length = issue(BERGEN, "NO4D0613", permit, line); /* from Oslo's list, with its own Data Server ID in the end */
+    length = issue(BERGEN, "NO4D0613", EXPIRY, permit, line); /* from Oslo's list, with its own Data Server ID in the end */
     if (length == 0)
         return 1;
     check(BERGEN, hw_id, TODAY, line, length);
-    enter(BERGEN, "NO4D0614", 1, 0x2122232425, 0x262728292A);
+    issue(BERGEN, "NO4D0613", AFTERWARDS, permit, line); /* a day too late, as it would be for Oslo */
+    enter(BERGEN, "NO4D0614", 1, 0x2122232425, 0x262728292A, NONE);
 
     printf("Oslo withdraws NO4D0613: ");
     tell(lambukir_withdraw(book, sizeof book, OSLO, name_of("NO4D0613")));

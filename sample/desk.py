@@ -2,11 +2,11 @@
 import sys
 from ctypes import CDLL, POINTER, Structure, c_char, c_char_p, c_size_t, c_uint16, c_uint32, c_uint64
 
-library = CDLL(sys.argv[1] if len(sys.argv) > 1 else "liblambukir.so.0.11")
+library = CDLL(sys.argv[1] if len(sys.argv) > 1 else "liblambukir.so.0.12")
 
 # Slices, each a pointer and a length. Where the header says const, bytes may be lent as they are; where a call writes, a bytearray, by lend().
 CONST, OUT, QUOTAS = (c_char_p, c_size_t), (POINTER(c_char), c_size_t), (POINTER(c_uint16), c_size_t)
-BOOK_SIZE, USER_PERMIT_SIZE, LINE_SIZE, TENANTS = 12389, 28, 76, 16
+BOOK_SIZE, USER_PERMIT_SIZE, LINE_SIZE, TENANTS = 14437, 28, 76, 16
 
 
 class Text(Structure):
@@ -43,7 +43,7 @@ hw_id_from_text = declared("hw_id_from_text", c_uint64, *CONST)
 code_from_text = declared("code_from_text", c_uint32, *CONST)
 make_user_permit = declared("make_user_permit", c_uint32, *CONST, c_uint64, c_uint32, *OUT)
 open_book = declared("open_book", c_uint32, *OUT, *QUOTAS, *CONST, *CONST)
-enter = declared("enter", c_uint32, *OUT, c_uint32, c_uint64, c_uint32, c_uint64, c_uint64)
+enter = declared("enter", c_uint32, *OUT, c_uint32, c_uint64, c_uint32, c_uint64, c_uint64, c_uint32)
 ask_edition = declared("ask_edition", Edition, *CONST, c_uint32, c_uint64)
 ask_producer = declared("ask_producer", Held, *CONST, c_uint32, c_uint32)
 issue = declared("issue", Written, *CONST, *CONST, c_uint32, c_uint64, c_uint32, c_uint32, *CONST, *OUT)
@@ -61,6 +61,7 @@ def meaning(number):
 
 OSLO, HAMBURG = 0, 1  # two of the sixteen agents, by their numbers in the book
 TODAY, EXPIRY = 20240131, 20240331
+NONE = 0  # no last expiry: a cell that may be sold for any time
 REGISTER = b"0198765"  # who makes bridge equipment: manufacturer 01 has the key 98765
 cell, ship = name_from_text(b"NO4D0613", 8), hw_id_from_text(b"12348", 5)
 
@@ -69,7 +70,7 @@ quotas = (c_uint16 * TENANTS)(100, 2, *[25] * 14)
 ids = b"NODEA2A3A4A5A6A7A8A9B0B1B2B3B4B5"
 principals = bytes(TENANTS)  # nobody is a branch
 print("A book is opened for sixteen agents:", meaning(open_book(*lend(book), quotas, TENANTS, ids, len(ids), principals, TENANTS)))
-print("Oslo enters NO4D0613, edition 10:", meaning(enter(*lend(book), OSLO, cell, 10, 0xC1CB518E9C, 0x421571CC66)))
+print("Oslo enters NO4D0613, edition 10:", meaning(enter(*lend(book), OSLO, cell, 10, 0xC1CB518E9C, 0x421571CC66, NONE)))
 
 permit = bytearray(USER_PERMIT_SIZE)
 made = make_user_permit(REGISTER, len(REGISTER), ship, code_from_text(b"01", 2), *lend(permit))

@@ -8,7 +8,7 @@
 static void worked(void)
 {
     static const uint8_t expected[] = {
-        1,   0,   0,   0,   125,                                                  /* version, used length */
+        2,   0,   0,   0,   129,                                                  /* version, used length */
         0,   1,   30,  'G', 'B', 0, 1, 2, 31, 'N', 'O', 0,                        /* quota 1; quota 258, days 31 */
         0,   0,   30,  '0', '0', 0, 0, 0, 30, '0', '1', 0, 0, 0, 30, '0', '2', 0, /* the rest has quota 0 */
         0,   0,   30,  '0', '3', 0, 0, 0, 30, '0', '4', 0, 0, 0, 30, '0', '5', 0,
@@ -17,6 +17,7 @@ static void worked(void)
         0,   0,   30,  'Z', '9', 0, 0, 9, 30, '9', 'Z', 0,                        /* the last has quota 9 */
         1,   'N', 'O', '4', 'D', '0', '6', '1', '3', 3, 231,                      /* tenant, name, edition 999 */
         193, 203, 81,  142, 156, 66, 21, 113, 204, 102, 0, 0, 0,                  /* the keys of S-63's worked permit */
+        1,   53,  0,   6,                                                         /* last expiry 20250630, which is 1350006 in hex */
     };
     static const uint16_t given[TENANTS] = {1, 258, [15] = 9};
     const uint64_t name = number_from("NO4D0613");
@@ -24,7 +25,7 @@ static void worked(void)
     memset(book, 0xEE, sizeof book);
     no_principals();
     expect(lambukir_open_book(book, BOOK, given, TENANTS, (const uint8_t *)"GBNO00010203040506070809AAAAZ99Z", 32, principals, TENANTS), 0);
-    expect(lambukir_enter(book, BOOK, 1, name, 999, 0xC1CB518E9C, 0x421571CC66), 0);
+    expect(lambukir_enter(book, BOOK, 1, name, 999, 0xC1CB518E9C, 0x421571CC66, 20250630), 0);
     expect(lambukir_set_days(book, BOOK, 1, 31), 0);
     same((uint64_t)memcmp(book, expected, sizeof expected), 0, "%s: its used bytes", about);
     for (size_t at = sizeof expected; at < BOOK; at++)
@@ -486,7 +487,9 @@ static void compare_reasons(int kind, unsigned reasons, size_t count)
     uint32_t pairs = due ? 2 : never ? TENANTS / 2 : TENANTS / 2 - 2;
     uint32_t tenant = 2 * (uint32_t)random_below(pairs) + !is_due(kind, reasons, 105) + (due ? TENANTS - 4 : 0);
     int absent = is_due(kind, reasons, 104) || is_due(kind, reasons, 105);
-    call c = some_call(kind, tenant, absent || (is_enter(kind) && random_below(2)) ? absent_name(tenant) : held_name(tenant));
+    const model_cell *cell = held_cell(tenant);
+    call c = some_call(kind, tenant, absent || (is_enter(kind) && random_below(2)) ? absent_name(tenant) : cell->name);
+    c.expiry = is_due(kind, reasons, 112) ? date_beyond(cell->last_expiry) : date_until(cell->last_expiry);
     for (size_t i = count; i-- > 0;)
         if (reasons >> i & 1)
             spoil(&c, orders_of[kind][i]);
@@ -501,6 +504,13 @@ static void compare_reasons(int kind, unsigned reasons, size_t count)
     expect(is_refusal(number) ? number : 0, first_of(orders_of[kind], count, reasons));
 }
 
+/* Lets each cell of a tenant have a last expiry. */
+static void limit_cells(model_tenant *t)
+{
+    for (size_t i = 0; i < t->held; i++)
+        t->cells[i].last_expiry = PICK(few_dates);
+}
+
 /* Every set of reasons to refuse at once, of every call: the first of the order wins. */
 static void orders(void)
 {
@@ -510,8 +520,10 @@ static void orders(void)
             principals[t] = t >= TENANTS - 4 ? (uint8_t)(2 * random_below(TENANTS / 2 - 2) + t % 2 + 1) : 0;
         }
         open_lists();
-        for (uint32_t t = 0; t < TENANTS - 4; t++)
+        for (uint32_t t = 0; t < TENANTS - 4; t++) {
             fill(t, t % 2 ? 1 + random_below(4) : 3);
+            limit_cells(&lists.tenants[t]);
+        }
         model_bytes_of_book(&lists, book);
         for (int kind = 0; kind < KINDS; kind++) {
             size_t count = 0;
@@ -528,6 +540,7 @@ static void issue_and_read(uint32_t tenant, const model_cell *cell)
 {
     const model_tenant *t = &lists.tenants[tenant];
     call c = some_call(ISSUE, tenant, cell->name), check = some_call(CHECK, tenant, 0);
+    c.expiry = allowed_expiry(cell->last_expiry);
     answer issued = compare_call(book, BOOK, &lists, &c);
     expect(issued.number, 0);
     same(issued.length, cell->edition < 10 ? 74 : cell->edition < 100 ? 75 : 76, "%s: length", about);
@@ -561,7 +574,9 @@ static void issue(void)
             }
         for (uint32_t t = 0; t < TENANTS; t++)
             for (size_t length = 0; length <= 80 && cells_of(t) > 0; length++) {
-                call c = some_call(ISSUE, t, held_name(t));
+                const model_cell *cell = held_cell(t);
+                call c = some_call(ISSUE, t, cell->name);
+                c.expiry = allowed_expiry(cell->last_expiry);
                 random_bytes(c.out, c.out_length = length);
                 ABOUT("full book %d, output of %zu bytes", i, length);
                 expect(compare_call(book, BOOK, &lists, &c).number, length < WRITTEN ? 108 : 0);
@@ -656,7 +671,7 @@ static void few_producers(const char *first, const char *second)
     open_lists();
     for (uint32_t t = 0; t < TENANTS; t++)
         while (lists.tenants[t].held < quotas[t] && random_below(40) != 0)
-            model_enter(&lists, t, (some_text(first, 1) << 8 | some_text(second, 1)) << 48 | some_text(NAMES, 6), 1, some_key(), some_key());
+            model_enter(&lists, t, (some_text(first, 1) << 8 | some_text(second, 1)) << 48 | some_text(NAMES, 6), 1, some_key(), some_key(), 0);
     model_bytes_of_book(&lists, book);
     for (uint32_t t = 0; t < TENANTS; t++) {
         held_producers(t, held);

@@ -32,14 +32,14 @@ static const uint32_t orders_of[KINDS][12] = {
     [SET_DAYS] = {101, 102, 103},
     [ASK_EDITION] = {101, 102, 103, 104},
     [ASK_PRODUCER] = {101, 102, 103},
-    [ISSUE] = {101, 109, 102, 108, 103, 106, 17, 107, 18, 104},
+    [ISSUE] = {101, 109, 102, 108, 103, 106, 17, 107, 18, 104, 112},
     [CHECK] = {101, 102, 18, 14, 12, 13, 21},
 };
 
 /* A call with all that its kind asks for; the rest is not looked at. */
 typedef struct {
     int kind;
-    uint32_t tenant, producer, edition, days, expiry, level, today;
+    uint32_t tenant, producer, edition, last_expiry, days, expiry, level, today;
     uint64_t name, key_one, key_two, hw_id;
     const uint8_t *reg;
     size_t reg_length, permit_length, line_length, out_length;
@@ -171,6 +171,30 @@ static inline uint32_t producer_of(uint64_t name)
     return (uint32_t)(name >> 48);
 }
 
+/* An expiry, often one of few, so that cells are issued for their very last day, for the day before and for the day after. */
+static const uint32_t few_dates[] = {20240228, 20240229, 20240301};
+
+static inline uint32_t some_expiry(void)
+{
+    switch (random_below(4)) {
+    case 0: return some_date();
+    case 1: return days_after(TODAY, random_below(95));
+    default: return PICK(few_dates);
+    }
+}
+
+/* Of a cell: none, or a date. */
+static inline uint32_t some_last_expiry(void)
+{
+    return random_below(3) ? some_expiry() : 0;
+}
+
+/* An expiry that a cell with this last expiry allows. */
+static inline uint32_t allowed_expiry(uint32_t last)
+{
+    return last == 0 ? some_expiry() : date_until(last);
+}
+
 /* A call of a kind with good values, for a tenant and a name. */
 static inline call some_call(int kind, uint32_t tenant, uint64_t name)
 {
@@ -179,8 +203,9 @@ static inline call some_call(int kind, uint32_t tenant, uint64_t name)
     c.edition = random_below(3) ? 1 + (uint32_t)random_below(999) : 1 + (uint32_t)random_below(12);
     c.key_one = some_key();
     c.key_two = some_key();
+    c.last_expiry = some_last_expiry();
     c.days = some_days();
-    c.expiry = random_below(2) ? some_date() : days_after(TODAY, random_below(95));
+    c.expiry = some_expiry();
     c.level = (uint32_t)random_below(2);
     c.today = TODAY;
     c.reg = good_register;
@@ -206,7 +231,7 @@ static inline int is_enter(int kind)
 /* Puts one of the call's values out of its range. */
 static inline void spoil_value(call *c)
 {
-    uint64_t which = random_below(is_enter(c->kind) ? 4 : c->kind == ISSUE ? 3 : 1);
+    uint64_t which = random_below(is_enter(c->kind) ? 5 : c->kind == ISSUE ? 3 : 1);
     if (c->kind == SET_DAYS)
         c->days = PICK(no_days);
     else if (c->kind == ASK_PRODUCER)
@@ -219,6 +244,8 @@ static inline void spoil_value(call *c)
         c->level = 2 + (uint32_t)(random64() >> (32 + random_below(32))) % 4294967294;
     else if (which == 1)
         c->edition = PICK(no_editions);
+    else if (which == 4)
+        c->last_expiry = no_last_expiry();
     else
         *(which == 2 ? &c->key_one : &c->key_two) = no_key();
 }
@@ -240,7 +267,7 @@ static inline void spoil_register(call *c)
 }
 
 /* Spoils a call so that a number is due, of those that come neither from the book's damage nor from what it holds and
-   whom a tenant names (101, 104, 105, 111).
+   whom a tenant names (101, 104, 105, 111, 112).
    For two numbers at once the later one of the rules' order is to be spoilt first. */
 static inline void spoil(call *c, uint32_t number)
 {
@@ -296,9 +323,9 @@ static inline answer our_answer(uint8_t *book, size_t length, const call *c)
     lambukir_edition e;
     lambukir_held h;
     switch (c->kind) {
-    case ENTER: a.number = lambukir_enter(book, length, c->tenant, c->name, c->edition, c->key_one, c->key_two); break;
+    case ENTER: a.number = lambukir_enter(book, length, c->tenant, c->name, c->edition, c->key_one, c->key_two, c->last_expiry); break;
     case WITHDRAW: a.number = lambukir_withdraw(book, length, c->tenant, c->name); break;
-    case HOUSE_ENTER: tell_moved(&a, lambukir_house_enter(book, length, c->tenant, c->name, c->edition, c->key_one, c->key_two)); break;
+    case HOUSE_ENTER: tell_moved(&a, lambukir_house_enter(book, length, c->tenant, c->name, c->edition, c->key_one, c->key_two, c->last_expiry)); break;
     case HOUSE_WITHDRAW: tell_moved(&a, lambukir_house_withdraw(book, length, c->tenant, c->name)); break;
     case SET_DAYS: a.number = lambukir_set_days(book, length, c->tenant, c->days); break;
     case ASK_EDITION:
@@ -325,9 +352,9 @@ static inline answer their_answer(model_book *b, const call *c)
     lambukir_held h;
     lambukir_written w;
     switch (c->kind) {
-    case ENTER: a.number = model_enter(b, c->tenant, c->name, c->edition, c->key_one, c->key_two); break;
+    case ENTER: a.number = model_enter(b, c->tenant, c->name, c->edition, c->key_one, c->key_two, c->last_expiry); break;
     case WITHDRAW: a.number = model_withdraw(b, c->tenant, c->name); break;
-    case HOUSE_ENTER: tell_moved(&a, model_house_enter(b, c->tenant, c->name, c->edition, c->key_one, c->key_two)); break;
+    case HOUSE_ENTER: tell_moved(&a, model_house_enter(b, c->tenant, c->name, c->edition, c->key_one, c->key_two, c->last_expiry)); break;
     case HOUSE_WITHDRAW: tell_moved(&a, model_house_withdraw(b, c->tenant, c->name)); break;
     case SET_DAYS: a.number = model_set_days(b, c->tenant, c->days); break;
     case ASK_EDITION:

@@ -7,7 +7,7 @@
 #define SETTINGS 5 /* where they begin in a book, and how long each is */
 #define SETTING 6
 #define RECORDS 101
-#define RECORD_SIZE 24
+#define RECORD_SIZE 28
 #define MOST 512 /* records in a book */
 #define DAYS_AT 2 /* in a setting */
 #define ID_AT 3
@@ -15,6 +15,7 @@
 #define NAME_AT 1 /* in a record */
 #define EDITION_AT 9
 #define ZEROS_AT 21
+#define LAST_EXPIRY_AT 24
 
 static model_book lists, changed; /* the lists of the book, and those of a changed copy */
 static uint8_t book[BOOK_ROOM], copy[BOOK_ROOM];
@@ -93,17 +94,22 @@ static inline uint64_t absent_name(uint32_t tenant)
     }
 }
 
-static inline uint64_t held_name(uint32_t tenant)
+static inline const model_cell *held_cell(uint32_t tenant)
 {
     const model_tenant *t = &lists.tenants[reads(tenant)];
-    return t->cells[random_below(t->held)].name;
+    return &t->cells[random_below(t->held)];
+}
+
+static inline uint64_t held_name(uint32_t tenant)
+{
+    return held_cell(tenant)->name;
 }
 
 /* Lets a tenant hold so many cells, in the lists. */
 static inline void fill(uint32_t tenant, size_t count)
 {
     while (lists.tenants[tenant].held < count)
-        model_enter(&lists, tenant, absent_name(tenant), 1 + (uint32_t)random_below(999), some_key(), some_key());
+        model_enter(&lists, tenant, absent_name(tenant), 1 + (uint32_t)random_below(999), some_key(), some_key(), some_last_expiry());
 }
 
 /* A book with so many records, which its quotas allow. */
@@ -127,10 +133,16 @@ static inline void some_book(uint32_t records, uint32_t quotas_sum)
     fill_book(records);
 }
 
+/* Of an undamaged book whose records have a size. */
+static inline size_t records_of(const uint8_t *b, size_t record_size)
+{
+    return ((size_t)b[3] * 256 + b[4] - RECORDS) / record_size;
+}
+
 /* Of the book. */
 static inline size_t record_count(void)
 {
-    return ((size_t)book[3] * 256 + book[4] - RECORDS) / RECORD_SIZE;
+    return records_of(book, RECORD_SIZE);
 }
 
 static inline void put16(uint8_t *at, size_t value)
@@ -139,12 +151,18 @@ static inline void put16(uint8_t *at, size_t value)
     at[1] = (uint8_t)value;
 }
 
-static inline void exchange(uint8_t *record)
+static inline void put32(uint8_t *at, uint32_t value)
+{
+    put16(at, value >> 16);
+    put16(at + 2, value & 0xFFFF);
+}
+
+static inline void exchange(uint8_t *record, size_t size)
 {
     uint8_t first[RECORD_SIZE];
-    memcpy(first, record, RECORD_SIZE);
-    memcpy(record, record + RECORD_SIZE, RECORD_SIZE);
-    memcpy(record + RECORD_SIZE, first, RECORD_SIZE);
+    memcpy(first, record, size);
+    memcpy(record, record + size, size);
+    memcpy(record + size, first, size);
 }
 
 static inline size_t quota_sum(void)
@@ -174,34 +192,35 @@ static inline void spoil_principal(uint8_t *b)
     }
 }
 
-/* Breaks one rule of a copy of the book, which has two records at least; the answer is the copy's length. */
-static inline size_t spoil_book(uint8_t *b)
+/* Breaks one rule of a book of a version, which has the lists and two records at least, and 64 bytes of room behind it; the answer is its length. */
+static inline size_t spoil_book(uint8_t *b, const model_version *v)
 {
-    size_t n = record_count();
+    size_t n = records_of(b, v->record);
     uint8_t *setting = b + SETTINGS + random_below(TENANTS) * SETTING;
-    uint8_t *record = b + RECORDS + random_below(n - 1) * RECORD_SIZE, *end = b + RECORDS + n * RECORD_SIZE; /* one that another follows */
-    uint8_t *any = b + RECORDS + random_below(n) * RECORD_SIZE;
-    switch (random_below(18)) {
-    case 0: b[0] = (uint8_t)(2 + random_below(255)); break;
+    uint8_t *record = b + RECORDS + random_below(n - 1) * v->record, *end = b + RECORDS + n * v->record; /* one that another follows */
+    uint8_t *any = b + RECORDS + random_below(n) * v->record;
+    switch (random_below(v->last_expiry > 0 ? 19 : 18)) {
+    case 0: b[0] = (uint8_t)(v->number + 1 + random_below(255)); break;
     case 1: b[1 + random_below(2)]++; break;
-    case 2: b[4] = (uint8_t)(b[4] + 1 + random_below(23)); break;
-    case 3: put16(b + 3, RECORDS + random_below(n) * RECORD_SIZE); break;
-    case 4: put16(b + 3, RECORDS + (n + 1) * RECORD_SIZE); break;
+    case 2: b[4] = (uint8_t)(b[4] + 1 + random_below(v->record - 1)); break;
+    case 3: put16(b + 3, RECORDS + random_below(n) * v->record); break;
+    case 4: put16(b + 3, RECORDS + (n + 1) * v->record); break;
     case 5: put16(setting, MOST + 1 - quota_sum() + setting[0] * 256u + setting[1]); break;
     case 6: put16(b + SETTINGS + any[0] * SETTING, lists.tenants[any[0]].held - 1); break;
     case 7: setting[DAYS_AT] = (uint8_t)(random_below(2) ? 0 : 91 + random_below(165)); break;
     case 8: setting[ID_AT + random_below(2)] = (uint8_t)NO_NAMES[random_below(sizeof NO_NAMES)]; break;
     case 9: spoil_principal(b); break;
-    case 10: end[-RECORD_SIZE] = (uint8_t)(16 + random_below(240)); break;
+    case 10: *(end - v->record) = (uint8_t)(16 + random_below(240)); break;
     case 11: any[NAME_AT + random_below(8)] = (uint8_t)NO_NAMES[random_below(sizeof NO_NAMES)]; break;
     case 12: put16(any + EDITION_AT, random_below(2) ? 0 : 1000 + random_below(64536)); break;
     case 13: any[ZEROS_AT + random_below(3)] = (uint8_t)(1 + random_below(255)); break;
-    case 14: exchange(record); break;
-    case 15: memcpy(record + RECORD_SIZE, record, EDITION_AT); break;
-    case 16: return random_below(2) ? random_below(BOOK) : BOOK + 1 + random_below(BOOK_ROOM - BOOK);
-    default: b[n < MOST ? RECORDS + n * RECORD_SIZE + random_below((MOST - n) * RECORD_SIZE) : 0] |= 2;
+    case 14: exchange(record, v->record); break;
+    case 15: memcpy(record + v->record, record, EDITION_AT); break;
+    case 16: return random_below(2) ? random_below(v->size) : v->size + 1 + random_below(BOOK_ROOM - BOOK);
+    case 17: b[n < MOST ? RECORDS + n * v->record + random_below((MOST - n) * v->record) : 0] |= 4; break;
+    default: put32(any + LAST_EXPIRY_AT, no_last_expiry());
     }
-    return BOOK;
+    return v->size;
 }
 
 /* A call on a damaged copy of the book: 101, and the copy stays as it is. */
@@ -209,7 +228,7 @@ static inline void compare_damaged(const call *c)
 {
     memset(copy + BOOK, 0, BOOK_ROOM - BOOK);
     memcpy(copy, book, BOOK);
-    size_t length = spoil_book(copy);
+    size_t length = spoil_book(copy, &model_version_2);
     same((uint64_t)model_is_book(copy, length), 0, "%s: damaged by the model", about);
     expect(compare_call(copy, length, &lists, c).number, 101);
 }

@@ -14,7 +14,7 @@ static void worked(void)
     same((uint64_t)memcmp(book + SETTINGS + 7 * SETTING, "\0\0\x1EN7\4", SETTING), 0, "%s: its setting", about);
     same((uint64_t)memcmp(book + SETTINGS + 3 * SETTING, "\0\2\x1ENO\0", SETTING), 0, "%s: its principal's", about);
     expect(lambukir_ask_edition(book, BOOK, 7, name).number, 104);
-    expect(lambukir_enter(book, BOOK, 3, name, 9, 0xC1CB518E9C, 0x421571CC66), 0);
+    expect(lambukir_enter(book, BOOK, 3, name, 9, 0xC1CB518E9C, 0x421571CC66, 0), 0);
     same(lambukir_ask_edition(book, BOOK, 7, name).edition, 9, "%s: edition", about);
     same(lambukir_ask_producer(book, BOOK, 7, 0x4E4F).held, 1, "%s: a cell of NO", about);
     expect(lambukir_ask_edition(book, BOOK, 6, name).number, 104);
@@ -27,12 +27,13 @@ static void worked(void)
     same((uint64_t)memcmp(line.out + CELL_PERMIT, ",0,9,N7,\r\n", 10), 0, "%s: its line's end", about);
     expect(lambukir_check(book, BOOK, 7, issued.hw_id, TODAY, line.out, line.length - 2).number, 0);
     expect(lambukir_check(book, BOOK, 3, issued.hw_id, TODAY, line.out, line.length - 2).number, 20);
-    expect(lambukir_enter(book, BOOK, 7, name, 10, 1, 2), 111);
-    expect(lambukir_enter(book, BOOK, 7, other, 10, 1, 2), 111);
-    expect(lambukir_enter(book, BOOK, 7, other, 0, 1, 2), 103);
+    expect(lambukir_enter(book, BOOK, 7, name, 10, 1, 2, 0), 111);
+    expect(lambukir_enter(book, BOOK, 7, other, 10, 1, 2, TODAY), 111);
+    expect(lambukir_enter(book, BOOK, 7, other, 0, 1, 2, 0), 103);
+    expect(lambukir_enter(book, BOOK, 7, other, 10, 1, 2, 1), 103);
     expect(lambukir_withdraw(book, BOOK, 7, name), 111);
     expect(lambukir_withdraw(book, BOOK, 7, other), 111);
-    expect(lambukir_house_enter(book, BOOK, 7, other, 10, 1, 2).number, 111);
+    expect(lambukir_house_enter(book, BOOK, 7, other, 10, 1, 2, 0).number, 111);
     expect(lambukir_house_withdraw(book, BOOK, 7, name).number, 111);
     expect(lambukir_withdraw(book, BOOK, 3, name), 0);
     expect(lambukir_ask_edition(book, BOOK, 7, name).number, 104);

@@ -22,7 +22,7 @@ int main()
     std::printf("%u %s\n", made, std::string(permit.begin(), permit.end()).c_str());
 
     uint32_t opened = lambukir_open_book(&book[0], book.size(), &quotas[0], quotas.size(), bytes(ids), ids.size(), &principals[0], principals.size());
-    uint32_t entered = lambukir_enter(&book[0], book.size(), 15, name, 10, 0xC1CB518E9C, 0x421571CC66);
+    uint32_t entered = lambukir_enter(&book[0], book.size(), 15, name, 10, 0xC1CB518E9C, 0x421571CC66, 0);
     lambukir_edition held = lambukir_ask_edition(&book[0], book.size(), 15, name);
     lambukir_edition others = lambukir_ask_edition(&book[0], book.size(), 14, name);
     std::printf("%u %u %u %u %u %u\n", opened, entered, held.number, held.edition, others.number, lambukir_is_success(others.number));

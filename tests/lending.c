@@ -17,9 +17,10 @@ typedef struct {
     size_t length;
 } slice;
 
-enum { BOOK, REGISTER, PERMIT, LINE, LINES, LIST, IDS, PRINCIPALS, KEY, TEXT, OUT, QUOTAS, SLICES };
+enum { BOOK, BOOK_1, NEW_BOOK, REGISTER, PERMIT, LINE, LINES, LIST, IDS, PRINCIPALS, KEY, TEXT, OUT, QUOTAS, SLICES };
 
-static uint8_t book[LAMBUKIR_BOOK_SIZE], out[LAMBUKIR_LINE_SIZE], permit[LAMBUKIR_USER_PERMIT_SIZE], line[LAMBUKIR_LINE_SIZE];
+static uint8_t book[LAMBUKIR_BOOK_SIZE], book_1[LAMBUKIR_BOOK_SIZE_1], new_book[LAMBUKIR_BOOK_SIZE];
+static uint8_t out[LAMBUKIR_LINE_SIZE], permit[LAMBUKIR_USER_PERMIT_SIZE], line[LAMBUKIR_LINE_SIZE];
 static const char ids[] = "NODEA2A3A4A5A6A7A8A9B0B1B2B3B4B5";
 static const char list[] = ":DATE 20240131 09:30\r\n:VERSION 2\r\n:CONTENT FULL\r\n:ENC\r\n"
                            "NO4D0613.000,20240101,10,,,,,,,,2,1,0,,B1,\r\nDE416080.000,20240101,3,,,,,,,,2,1,0,,B1,\r\n:ECS\r\n";
@@ -30,12 +31,16 @@ static const uint8_t principals[LAMBUKIR_TENANTS] = {0, 1};
 static void fill(slice s[SLICES])
 {
     lambukir_open_book(book, sizeof book, quotas, LAMBUKIR_TENANTS, (const uint8_t *)ids, LAMBUKIR_IDS_SIZE, principals, sizeof principals);
-    lambukir_enter(book, sizeof book, 0, NAME, 10, 1, 2);
+    memcpy(book_1, book, 101); /* empty, it differs from one of version 1 in its first byte and its length alone */
+    book_1[0] = 1;
+    lambukir_enter(book, sizeof book, 0, NAME, 10, 1, 2, EXPIRY);
     lambukir_make_user_permit((const uint8_t *)"0198765", 7, HW_ID, 0x3031, permit, sizeof permit);
     lambukir_written written = lambukir_write_line(HW_ID, NAME, EXPIRY, 1, 2, 0, 10, 0x4742, line, sizeof line);
     int length = snprintf(file, sizeof file, ":DATE 20240131 09:30\r\n:VERSION 2\r\n:ENC\r\n%.*s:ECS\r\n", (int)written.length, (const char *)line);
     const slice all[SLICES] = {
         [BOOK] = {book, sizeof book},
+        [BOOK_1] = {book_1, sizeof book_1},
+        [NEW_BOOK] = {new_book, sizeof new_book},
         [REGISTER] = {(const uint8_t *)"0198765", 7},
         [PERMIT] = {permit, sizeof permit},
         [LINE] = {line, written.length - 2},
@@ -56,7 +61,7 @@ static void fill(slice s[SLICES])
 #define LENT_TEXT (const char *)s[TEXT].bytes, s[TEXT].length
 
 /* Every function that takes a slice, each once; what one answers is told as one number. */
-#define CALLS 25
+#define CALLS 26
 
 static uint64_t call(int which, const slice s[SLICES])
 {
@@ -71,7 +76,7 @@ static uint64_t call(int which, const slice s[SLICES])
     case 7: return lambukir_product_standing(LENT(LIST), NAME, 10, 0).number;
     case 8: return lambukir_withdraw(WRITTEN(BOOK), 0, NAME);
     case 9: return lambukir_set_days(WRITTEN(BOOK), 0, 60);
-    case 10: return lambukir_enter(WRITTEN(BOOK), 0, NAME, 11, 3, 4);
+    case 10: return lambukir_enter(WRITTEN(BOOK), 0, NAME, 11, 3, 4, EXPIRY);
     case 11: return lambukir_ask_edition(LENT(BOOK), 0, NAME).number;
     case 12: return lambukir_issue(LENT(BOOK), LENT(REGISTER), 0, NAME, EXPIRY, 0, LENT(PERMIT), WRITTEN(OUT)).number;
     case 13: return lambukir_check(LENT(BOOK), 0, HW_ID, TODAY, LENT(LINE)).number;
@@ -84,7 +89,8 @@ static uint64_t call(int which, const slice s[SLICES])
     case 20: return lambukir_key_from_hex(LENT_TEXT);
     case 21: return lambukir_date_from_text(LENT_TEXT);
     case 22: return lambukir_ask_producer(LENT(BOOK), 0, 0x4E4F).number;
-    case 23: return lambukir_house_enter(WRITTEN(BOOK), 0, NAME + 1, 11, 3, 4).number;
+    case 23: return lambukir_house_enter(WRITTEN(BOOK), 0, NAME + 1, 11, 3, 4, 0).number;
+    case 24: return lambukir_carry_over(LENT(BOOK_1), WRITTEN(NEW_BOOK));
     default: return lambukir_house_withdraw(WRITTEN(BOOK), 0, NAME).number;
     }
 }

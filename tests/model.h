@@ -27,7 +27,7 @@ size_t model_look_through(const uint8_t *input, size_t length, uint8_t *report);
 #define MODEL_TENANTS 16
 typedef struct {
     uint64_t name, key_one, key_two;
-    uint32_t edition;
+    uint32_t edition, last_expiry; /* 0 for none */
 } model_cell;
 typedef struct {
     uint32_t quota, days, server, principal;
@@ -38,22 +38,38 @@ typedef struct {
     model_tenant tenants[MODEL_TENANTS];
 } model_book;
 
-/* Whether these bytes are an undamaged book; the bytes of the lists, and the lists of an undamaged book. */
+/* A version of the book's bytes: how long a book is and each of its records, and how many of a record's bytes, at its end, are the last expiry. */
+typedef struct {
+    uint8_t number;
+    size_t size, record, last_expiry;
+} model_version;
+extern const model_version model_version_1, model_version_2;
+
+/* Whether these bytes are an undamaged book of a version; the bytes of the lists, and the lists of an undamaged book. Where the version has no last
+   expiries, they are not written, and are read as 0. */
+bool model_is_book_of(const model_version *v, const uint8_t *book, size_t length);
+void model_bytes_of(const model_version *v, const model_book *b, uint8_t *book);
+void model_lists_of(const model_version *v, const uint8_t *book, model_book *b);
+
+/* Of version 2, which is that of every call but the carry-over. */
 bool model_is_book(const uint8_t *book, size_t length);
 void model_bytes_of_book(const model_book *b, uint8_t book[LAMBUKIR_BOOK_SIZE]);
 void model_book_of_bytes(const uint8_t book[LAMBUKIR_BOOK_SIZE], model_book *b);
 
+/* With the same arguments and answers as that of lambukir.h, on bytes. */
+uint32_t model_carry_over(const uint8_t *book, size_t book_length, uint8_t *new_book, size_t new_book_length);
+
 /* The calls on lists: no damage there, and no 101 but at opening. */
 uint32_t model_open_book(model_book *b, size_t book_length, const uint16_t *quotas, size_t quotas_length, const uint8_t *ids, size_t ids_length,
                          const uint8_t *principals, size_t principals_length);
-uint32_t model_enter(model_book *b, uint32_t tenant, uint64_t name, uint32_t edition, uint64_t key_one, uint64_t key_two);
+uint32_t model_enter(model_book *b, uint32_t tenant, uint64_t name, uint32_t edition, uint64_t key_one, uint64_t key_two, uint32_t last_expiry);
 uint32_t model_withdraw(model_book *b, uint32_t tenant, uint64_t name);
 uint32_t model_set_days(model_book *b, uint32_t tenant, uint32_t days);
 lambukir_edition model_ask_edition(const model_book *b, uint32_t tenant, uint64_t name);
 lambukir_held model_ask_producer(const model_book *b, uint32_t tenant, uint32_t producer);
 lambukir_written model_issue(const model_book *b, const uint8_t *reg, size_t reg_length, uint32_t tenant, uint64_t name, uint32_t expiry,
                              uint32_t level, const uint8_t *permit, size_t permit_length, uint8_t *out, size_t out_length);
-lambukir_moved model_house_enter(model_book *b, uint32_t tenant, uint64_t name, uint32_t edition, uint64_t key_one, uint64_t key_two);
+lambukir_moved model_house_enter(model_book *b, uint32_t tenant, uint64_t name, uint32_t edition, uint64_t key_one, uint64_t key_two, uint32_t last_expiry);
 lambukir_moved model_house_withdraw(model_book *b, uint32_t tenant, uint64_t name);
 lambukir_line model_check(const model_book *b, uint32_t tenant, uint64_t hw_id, uint32_t today, const uint8_t *line, size_t line_length);
 

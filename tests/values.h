@@ -155,6 +155,24 @@ static inline uint32_t no_date(int of_any_size)
     return of_any_size && random_below(3) == 0 ? PICK(longer_no_dates) : PICK(no_dates);
 }
 
+/* Of a cell: neither none nor a date. */
+static inline uint32_t no_last_expiry(void)
+{
+    uint32_t number = no_date(1);
+    while (number == 0)
+        number = no_date(1);
+    return number;
+}
+
+/* A date that is no later than another, and often that one. */
+static inline uint32_t date_until(uint32_t last)
+{
+    uint32_t date = random_below(2) ? last : some_date();
+    while (date > last)
+        date = some_date();
+    return date;
+}
+
 static inline uint32_t some_days(void)
 {
     return 1 + (uint32_t)random_below(90);
@@ -177,6 +195,15 @@ static inline uint32_t days_after(uint32_t date, uint64_t days)
 {
     for (; days > 0; days--)
         date = day_after(date);
+    return date;
+}
+
+/* A date that is later than another, which is not the last one; often the next day. */
+static inline uint32_t date_beyond(uint32_t last)
+{
+    uint32_t date = random_below(2) ? day_after(last) : some_date();
+    while (date <= last)
+        date = some_date();
     return date;
 }
 
