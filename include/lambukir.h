@@ -13,9 +13,9 @@
    Every function takes every input and comes back. None allocates, and none
    keeps anything between calls, so threads may call them at the same time; on
    one book see "How to keep a book". A call takes at most 6 KiB of stack, but
-   for lambukir_product_standing, which says what it takes. None wipes the
-   stack: what a call worked with, a key's words among it, stays there until
-   something else is written over it.
+   for lambukir_product_standing and lambukir_carry_over, which say what they
+   take. None wipes the stack: what a call worked with, a key's words among it,
+   stays there until something else is written over it.
 
    A call takes a microsecond or two, and some 35 more for each key of the
    cipher that it has to set up: where it does, it says "one key set-up". Only
@@ -157,7 +157,7 @@
 #define LAMBUKIR_QUOTA_USED 105       /* the quota is used */
 #define LAMBUKIR_NO_USER_PERMIT 106   /* the user permit is not 28 of 0-9 A-F a-f */
 #define LAMBUKIR_UNKNOWN_M_ID 107     /* the M_ID is not in the register */
-#define LAMBUKIR_OUT_TOO_SHORT 108    /* the output is too short */
+#define LAMBUKIR_OUT_TOO_SHORT 108    /* the output is too short, or not of a book's length */
 #define LAMBUKIR_REGISTER_DAMAGED 109 /* the register is damaged */
 #define LAMBUKIR_CELL_TWICE 110       /* a cell has two rows in the product list */
 #define LAMBUKIR_BRANCH 111           /* a branch cannot enter or withdraw */
@@ -654,6 +654,7 @@ lambukir_open_book(uint8_t *book, size_t book_length,
 /* Writes to new_book what a book of version 1 becomes: the book with the same
    settings and the same cells, none of them with a last expiry; and answers 0.
    What was in new_book before is neither looked at nor kept. book is only read.
+   It takes 15 KiB of stack, where the new book is written and judged first.
 
    As long as every cell is entered with last expiry 0, each call answers on the
    new book what it answered on the old one, and carrying over before or after
