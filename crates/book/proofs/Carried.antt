@@ -8,20 +8,19 @@ use lib.Dec.{eqb}
 use Rattle.bytes.proofs.Every.{and-first, and-second}
 use Rattle.tenants.specs.Rules.{Own, Change}
 use Rattle.tenants.specs.Calls.{Call, Answer, changeOf, answerOf}
-use Rattle.tenants.specs.Alone.{Made}
 use Rattle.tenants.specs.Together.{Book, listOf, ownOf, changed, isGood}
 use Rattle.tenants.specs.Version1.{noLasts, givesNoLast, changeBefore, answerBefore}
 use Rattle.tenants.proofs.KeptGood.{good-after}
 use Rattle.tenants.proofs.Version1.{none-own, same-change-before, same-answer-before, none-after}
-use Rattle.layout.specs.Layout.{one, bookBytesBy, bookOfBy, isBookBy, bookBytes, bookOf, isBook, ownIn}
+use Rattle.layout.specs.Layout.{one, bookOfBy, isBookBy, bookBytes, bookOf, isBook}
 use Rattle.layout.proofs.Fits.{no-lasts}
-use Rattle.layout.proofs.Promises.{reads-back, says-by}
+use Rattle.layout.proofs.Promises.{reads-back, says-by, versions-apart}
 use Rattle.carrying.specs.Carrying.{carried}
 use Rattle.carrying.proofs.OldBooks.{old-lasts, carries-over}
 use Rattle.book.specs.OnBook.{answerIn, bookAfter}
 use Rattle.book.specs.Mixed.{afterAll, answersTo}
-use Rattle.book.specs.Carried.{ownBefore, bookBefore, afterAllBefore, answersBefore, giveNoLast, AnsweredAsBefore, BeforeOrAfter}
-use Rattle.book.proofs.Undamaged.{answer-says, after-says}
+use Rattle.book.specs.Carried.{ownBefore, bookBefore, afterAllBefore, answersBefore, giveNoLast, OldRefused, AnsweredAsBefore, BeforeOrAfter}
+use Rattle.book.proofs.Undamaged.{answer-says, after-says, damaged-refused}
 
 module _ (s : List ℕ) (undamaged : isBookBy one s ≡ true) (t : ℕ) (call : Call) (given : givesNoLast call ≡ true) where
   abbrev b : Book
@@ -70,6 +69,9 @@ module _ (s : List ℕ) (undamaged : isBookBy one s ≡ true) (t : ℕ) (call : 
       ∙ ap (λ (x : Book). bookBytes (changed t (changeOf t call (ownOf t x)) x)) same
       ∙ ap (λ (c : Change). bookBytes (changed t c b)) rules
       ∙ sym (ap bookBytes (old-then .1))
+
+pub old-refused : OldRefused
+old-refused s t call undamaged = damaged-refused s t call (versions-apart s undamaged)
 
 pub answered-as-before : AnsweredAsBefore
 answered-as-before s t call undamaged given = as-answered s undamaged t call given

@@ -1,11 +1,11 @@
 -- A call on an undamaged book does what the rules do to the book that its bytes say, and leaves it undamaged.
 -- Assumes nothing.
 use mathlib.Core.Path.{_≡_, refl, sym, ap, _∙_}
-use mathlib.Core.Bool.{true}
+use mathlib.Core.Bool.{true, false}
 use mathlib.Core.List.{List}
 use Prim.Native.Nat.{ℕ}
 use Rattle.tenants.specs.Rules.{Change, enters, withdraws, sets, nothing, refuses, entering, withdrawing, settingDays}
-use Rattle.tenants.specs.Calls.{Call, enter, withdraw, setDays, askEdition, askProducer, issue, check, changeOf, answerOf}
+use Rattle.tenants.specs.Calls.{Call, enter, withdraw, setDays, askEdition, askProducer, issue, check, answerNumber, changeOf, answerOf}
 use Rattle.tenants.specs.Together.{changed}
 use Rattle.tenants.proofs.KeptGood.{good-after}
 use Rattle.layout.specs.Layout.{bookBytes, bookOf, isBook, ownIn}
@@ -53,6 +53,17 @@ module _ (s : List ℕ) (t : ℕ) (call : Call) (undamaged : isBook s ≡ true) 
   -- what they say is the changed book
   pub book-after : bookOf (bookAfter t call s) ≡ changed t (changeOf t call (ownIn s t)) (bookOf s)
   book-after = ap bookOf (after-says s t undamaged call) ∙ good-reads-back _ (good-after t call (bookOf s) (undamaged-says s undamaged .0)) .1
+
+-- a damaged one is refused by every call
+pub damaged-refused : (s : List ℕ) (t : ℕ) (call : Call) → isBook s ≡ false → answerNumber (answerIn t call s) ≡ 101
+unfolding entry withdrawal newDays editionIn holdingIn issuedFrom checkedBy
+damaged-refused s t (enter cell) damaged = rw damaged
+damaged-refused s t (withdraw name) damaged = rw damaged
+damaged-refused s t (setDays days) damaged = rw damaged
+damaged-refused s t (askEdition name) damaged = rw damaged
+damaged-refused s t (askProducer producer) damaged = rw damaged
+damaged-refused s t (issue register name expiry level permit room) damaged = rw damaged
+damaged-refused s t (check hw today line) damaged = rw damaged
 
 pub stays-undamaged : StaysUndamaged
 stays-undamaged = still-undamaged

@@ -5,7 +5,7 @@ use mathlib.Core.List.{List, [], _∷_}
 use Prim.Native.Nat.{ℕ}
 use lib.Dec.{eqb}
 use Rattle.tenants.specs.Rules.{Own}
-use Rattle.tenants.specs.Calls.{Call, Answer}
+use Rattle.tenants.specs.Calls.{Call, Answer, answerNumber}
 use Rattle.tenants.specs.Alone.{Made}
 use Rattle.tenants.specs.Together.{ownOf, changed}
 use Rattle.tenants.specs.Version1.{givesNoLast, changeBefore, answerBefore}
@@ -39,6 +39,10 @@ answersBefore t (m ∷ made) s =
 unfoldable pub giveNoLast : List Made → Bool
 giveNoLast [] = true
 giveNoLast (m ∷ made) = givesNoLast (m .call) && giveNoLast made
+
+-- a version 1 book is 101 to every tenant call, as a damaged one is
+abbrev pub OldRefused : Type 0
+OldRefused = (s : List ℕ) (t : ℕ) (call : Call) → isBookBy one s ≡ true → answerNumber (answerIn t call s) ≡ 101
 
 -- on a book that was carried over a call of version 1 is answered what it was answered before
 abbrev pub AnsweredAsBefore : Type 0

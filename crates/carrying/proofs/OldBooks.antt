@@ -4,7 +4,7 @@
 use mathlib.Core.Path.{_≡_, refl, sym, ap, _∙_}
 use mathlib.Core.Bool.{true, false}
 use mathlib.Core.List.{List}
-use Prim.Native.Nat.{ℕ, zero, suc, _+_, _≤_}
+use Prim.Native.Nat.{ℕ, zero, suc, _+_}
 use native.Mathlib.Omega.{arith}
 use borrow.Author.Tests.{eq-eqb, ne-eqb, leb-true, leb-false}
 use lib.Dec.{leb}
@@ -17,8 +17,7 @@ use Rattle.text.specs.Texts.{sameText, placed}
 use Rattle.text.proofs.SameTexts.{same-refl}
 use Rattle.text.proofs.PlacedTexts.{placed-start}
 use Rattle.forms.specs.Output.{writtenNumber, writtenOf, lentAfter}
-use Rattle.tenants.specs.declared.Setting.{Setting}
-use Rattle.tenants.specs.Together.{BookRecord, Book, isGood}
+use Rattle.tenants.specs.Together.{Book, isGood}
 use Rattle.tenants.specs.Version1.{noLasts}
 use Rattle.layout.specs.Layout.{one, two, bookSizeBy, recordPlaceBy, settingAt, recordAtBy, recordCountBy, bookOfBy, isBookBy, settingPlace, eachFrom, bookSize, isBook, bookOf}
 use Rattle.layout.proofs.Each.{Each, each-count}

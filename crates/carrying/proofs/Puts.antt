@@ -2,7 +2,7 @@
 -- Assumes nothing.
 use mathlib.Core.Path.{_≡_, refl, sym, ap, ap₂, _∙_}
 use mathlib.Core.List.{List, [], _∷_, _++_, append-assoc}
-use Prim.Native.Nat.{ℕ, _+_, _-_, _*_, _≤_, _<_}
+use Prim.Native.Nat.{ℕ, _+_, _-_, _≤_, _<_}
 use native.Mathlib.Omega.{arith}
 use lib.ListN.{length, drop, length-append, length-replicate}
 use Rattle.bytes.specs.Numbers.{digits, Below, bytesOf}
@@ -21,7 +21,6 @@ use Rattle.layout.specs.Layout.{
   recordCountBy,
   bookBytesBy,
   bookOfBy,
-  settingAt,
   settingsPlace,
   recordsPlace,
   recordSize,
@@ -32,7 +31,6 @@ use Rattle.layout.specs.Layout.{
   zeros,
   settingBytes,
   allBytes,
-  eachFrom,
 }
 use Rattle.layout.proofs.Versions.{place-next, record-within, used-most}
 use Rattle.layout.proofs.Each.{each-count}

@@ -11,7 +11,7 @@ use lib.ListN.{length, getD, drop}
 use Rattle.bytes.specs.Numbers.{Below}
 use Rattle.bytes.specs.Every.{allOf}
 use Rattle.bytes.specs.Places.{numberAt}
-use Rattle.bytes.proofs.Every.{and-first, and-second, either, same-tests}
+use Rattle.bytes.proofs.Every.{and-first, and-second}
 use Rattle.text.specs.Texts.{sameText}
 use Rattle.text.proofs.SameTexts.{same-refl}
 use Rattle.tenants.specs.declared.Setting.{Setting}

@@ -4,7 +4,8 @@ use mathlib.Core.Path.{_≡_, sym, ap, _∙_}
 use mathlib.Core.Bool.{true, _&&_}
 use mathlib.Core.List.{List}
 use Prim.Native.Nat.{ℕ}
-use borrow.Author.Tests.{eqb-true, eq-eqb}
+use native.Mathlib.Omega.{arith}
+use borrow.Author.Tests.{eqb-true, eq-eqb, ne-eqb}
 use lib.Dec.{eqb}
 use lib.ListN.{length}
 use Rattle.bytes.proofs.Every.{and-first, and-second}
@@ -12,8 +13,8 @@ use Rattle.text.specs.Texts.{sameText}
 use Rattle.text.proofs.SameTexts.{same-true, same-refl}
 use Rattle.tenants.specs.Together.{Book, isGood}
 use Rattle.tenants.proofs.Goodness.{Good, good-facts}
-use Rattle.layout.specs.Layout.{Version, two, bookSizeBy, bookBytesBy, bookOfBy, isBookBy, bookBytes, bookOf, isBook}
-use Rattle.layout.specs.Readable.{GoodReadsBack, UndamagedSays}
+use Rattle.layout.specs.Layout.{Version, one, two, bookSizeBy, bookSize, bookBytesBy, bookOfBy, isBookBy, bookBytes, bookOf, isBook}
+use Rattle.layout.specs.Readable.{GoodReadsBack, UndamagedSays, VersionsApart}
 use Rattle.layout.proofs.Sizes.{book-size}
 use Rattle.layout.proofs.Fits.{BookFits, LastsFit, good-lasts, book-fits-by}
 use Rattle.layout.proofs.ReadBack.{book-back}
@@ -58,6 +59,10 @@ good-reads-back book good = reads-back two book good (good-lasts book good)
 
 pub undamaged-says : UndamagedSays
 undamaged-says = says-by two
+
+pub versions-apart : VersionsApart
+unfolding isBookBy
+versions-apart s old = rw (ne-eqb (length s) bookSize (λ same. omega (arith, says-by one s old .1 .1, same)))
 
 module _ (s : List ℕ) (undamaged : isBook s ≡ true) where
   -- what an undamaged book says is good

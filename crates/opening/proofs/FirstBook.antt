@@ -8,10 +8,10 @@ use native.Mathlib.Nat.{div-one}
 use native.Mathlib.Omega.{arith}
 use borrow.Author.Tests.{eq-eqb, ne-eqb}
 use lib.ListN.{length, take, drop, set, length-append, length-set, length-replicate, replicate-append-replicate, drop-of-length-le}
-use lib.Seq.{take-all, take-suc-set, drop-at}
+use lib.Seq.{take-all, take-suc-set}
 use Rattle.bytes.specs.Numbers.{digits}
 use Rattle.text.specs.Texts.{placed}
-use Rattle.text.proofs.PlacedTexts.{length-placed, placed-none, placed-start, placed-next}
+use Rattle.text.proofs.PlacedTexts.{placed-start, placed-next}
 use Rattle.forms.specs.Output.{writtenNumber, writtenOf, lentAfter}
 use Rattle.tenants.specs.declared.Setting.{Setting}
 use Rattle.layout.specs.Layout.{two, bookBytesBy, bookSize, settingSize, recordsPlace, settingPlace, zeros, settingBytes, allBytes, bookBytes, eachFrom}
@@ -89,15 +89,15 @@ module _ (quotas ids principals : List ℕ) where
   abbrev emptyBytes : List ℕ
   emptyBytes = bookBytes (emptyBook quotas ids principals)
 
-  empty-is : emptyBytes ≡ (start ++ firstBytes 0 16) ++ zeros 14336
+  empty-is : emptyBytes ≡ (start ++ firstBytes 0 16) ++ zeros (bookSize - recordsPlace)
   unfolding bookBytesBy emptyBook allBytes digits
-  empty-is = sym (append-assoc start (firstBytes 0 16) (zeros 14336))
+  empty-is = sym (append-assoc start (firstBytes 0 16) (zeros (bookSize - recordsPlace)))
 
   -- the start and the settings on zeros
   pub empty-placed : (size : ℕ) (s₁ s₂ s₃ : List ℕ) → size ≡ bookSize
       → s₁ ≡ zeros size → s₂ ≡ placed 0 start s₁ → s₃ ≡ placed 5 (firstBytes 0 16) s₂ → s₃ ≡ emptyBytes
   empty-placed size s₁ s₂ s₃ e e₁ e₂ e₃ =
-      let long : length s₁ ≡ 14437 = ap length e₁ ∙ length-replicate size 0 ∙ e in
+      let long : length s₁ ≡ bookSize = ap length e₁ ∙ length-replicate size 0 ∙ e in
       let six : length (firstBytes 0 16) ≡ 96 = first-size 0 16 in
       let both : length (start ++ firstBytes 0 16) ≡ 101 = simp length-append (omega arith) in
       e₃
@@ -105,7 +105,7 @@ module _ (quotas ids principals : List ℕ) where
       ∙ placed-next 0 5 start (firstBytes 0 16) s₁ refl (omega arith)
       ∙ placed-start (start ++ firstBytes 0 16) s₁ (omega arith)
       ∙ ap₂ (λ (n : ℕ) (l : List ℕ). (start ++ firstBytes 0 16) ++ drop n l) both e₁
-      ∙ ap (λ (l : List ℕ). (start ++ firstBytes 0 16) ++ l) (drop-zeros 101 14336 size e)
+      ∙ ap (λ (l : List ℕ). (start ++ firstBytes 0 16) ++ l) (drop-zeros recordsPlace (bookSize - recordsPlace) size e)
       ∙ sym empty-is
 
   empty-size : length emptyBytes ≡ bookSize

@@ -11,7 +11,7 @@ use Rattle.bytes.proofs.Every.{and-first, and-second, either}
 use Rattle.text.specs.Characters.{isNameCharacter}
 use Rattle.dates.specs.Calendar.{year, within, isDate}
 use Rattle.dates.specs.Notice.{isDays}
-use Rattle.forms.specs.Identifiers.{isCellName, isCellKey}
+use Rattle.forms.specs.Identifiers.{isCellName}
 use Rattle.forms.proofs.Fits.{text-fits}
 use Rattle.tenants.specs.declared.Held.{Held}
 use Rattle.tenants.specs.declared.Setting.{Setting}

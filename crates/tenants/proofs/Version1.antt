@@ -1,20 +1,16 @@
 -- Where no cell has a last expiry and none is given, the rules do and answer what version 1's did, and afterwards none has one.
 -- Assumes nothing.
 use mathlib.Core.Path.{_≡_, refl, sym, ap, _∙_}
-use mathlib.Core.Bool.{true, _&&_, _||_}
+use mathlib.Core.Bool.{true, _||_}
 use mathlib.Core.List.{List, [], _∷_}
 use mathlib.Core.Option.{Option, none, some}
 use Prim.Native.Nat.{ℕ}
-use lib.Dec.{leb, ltb, eqb}
+use lib.Dec.{ltb, eqb}
 use lib.ListN.{length}
 use Rattle.bytes.proofs.Every.{and-first, and-second, either}
-use Rattle.dates.specs.Calendar.{isDate}
 use Rattle.dates.specs.Notice.{isDays}
-use Rattle.forms.specs.Order.{demand}
 use Rattle.forms.specs.Identifiers.{isCellName}
-use Rattle.forms.specs.Output.{Output, refusal}
 use Rattle.forms.proofs.Demands.{demanded}
-use Rattle.user_permit.specs.Register.{isRegister}
 use Rattle.user_permit.specs.UserPermit.{readPermit}
 use Rattle.user_permit.specs.declared.UserPermit.{UserPermit}
 use Rattle.user_permit.specs.declared.UserPermit.the-variants as user-permit
@@ -22,7 +18,7 @@ use Rattle.tenants.specs.declared.Held.{Held}
 use Rattle.tenants.specs.declared.Setting.{Setting}
 use Rattle.tenants.specs.Cells.{entered, withdrawn, cellOf}
 use Rattle.tenants.specs.Rules.{Own, Change, enters, withdraws, sets, refuses, isTenant, isLast, isHeld, namesNone, isSome, entering, withdrawing, settingDays, inTime, lineFor, issuing}
-use Rattle.tenants.specs.Calls.{Call, enter, withdraw, setDays, askEdition, askProducer, issue, check, written, changeOf, answerOf, number}
+use Rattle.tenants.specs.Calls.{Call, enter, withdraw, setDays, askEdition, askProducer, issue, check, written, changeOf, answerOf}
 use Rattle.tenants.specs.Together.{BookRecord, Book, cellIn, inBook, tenantOf, cellsOf, changed}
 use Rattle.tenants.specs.Version1.{noLasts, givesNoLast, isHeldBefore, enteringBefore, lineForBefore, issuingBefore, changeBefore, answerBefore}
 use Rattle.tenants.proofs.Ordered.{equal-or-not, entered-cases, withdrawn-cases, found-here, found-later}

@@ -12,7 +12,7 @@ use Rattle.layout.specs.Layout.{one, usedLengthBy, recordCountBy, allFrom}
 use Rattle.layout.proofs.Decides.{part-fails, fact-fails, last-decides}
 use Rattle.judging.specs.Judging.{isZero}
 use Rattle.carrying.specs.OldForm.{zerosEnd, oldForm}
-use Rattle.carrying.proofs.OldForms.{Formed, form-facts, formed-test}
+use Rattle.carrying.proofs.OldForms.{form-facts, formed-test}
 use Rattle.carrying.proofs.is_old_form.Statement.{statement}
 use Rattle.carrying.proofs.is_old_form.Tie as tie
 

@@ -2,12 +2,10 @@
 -- Assumes nothing.
 use mathlib.Core.Path.{_≡_, sym, ap, _∙_}
 use mathlib.Core.List.{List}
-use Prim.Native.Nat.{ℕ, _+_, _-_, _%_, _<_, _≤_}
+use Prim.Native.Nat.{ℕ, _+_, _-_, _%_}
 use native.Mathlib.Omega.{arith}
 use borrow.Author.Needs.{needs}
 use borrow.Author.Tests.{eq-eqb, ne-eqb}
-use lib.ListN.{length}
-use Rattle.bytes.specs.Numbers.{Below}
 use Rattle.bytes.specs.Places.{numberAt}
 use Rattle.layout.specs.Layout.{one, recordPlaceBy}
 use Rattle.layout.proofs.AllFrom.{Passed, passed-none, passed-next, passed-all, one-fails}

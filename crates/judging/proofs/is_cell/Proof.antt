@@ -1,8 +1,6 @@
 -- `judging::is_cell` meets its contract. A last expiry that is known to be one needs no judging.
 -- Assumes nothing.
 use mathlib.Core.Path.{_≡_, sym, ap, _∙_}
-use mathlib.Core.Bool.{Bool, true}
-use Prim.Native.Nat.{ℕ}
 use borrow.Author.Needs.{needs}
 use borrow.Author.Tests.{not-true, not-false}
 use Rattle.tenants.specs.Rules.{isLast}
