@@ -1,3 +1,4 @@
 pub mod OldForms
-pub mod OldBooks
+pub mod Wider
 pub mod Puts
+pub mod OldBooks

@@ -6,13 +6,12 @@ use mathlib.Core.Bool.{true, false}
 use mathlib.Core.List.{List}
 use Prim.Native.Nat.{ℕ, zero, suc, _+_}
 use native.Mathlib.Omega.{arith}
-use borrow.Author.Tests.{eq-eqb, ne-eqb, leb-true, leb-false}
-use lib.Dec.{leb}
+use borrow.Author.Tests.{eq-eqb, ne-eqb}
 use lib.ListN.{length}
-use Rattle.bytes.specs.Numbers.{Below, value}
+use Rattle.bytes.specs.Numbers.{Below}
 use Rattle.bytes.specs.Places.{numberAt}
 use Rattle.bytes.proofs.Every.{either, never-both, same-tests}
-use Rattle.bytes.proofs.Places.{number-within, number-beyond, number-at-below}
+use Rattle.bytes.proofs.Places.{number-at-below}
 use Rattle.text.specs.Texts.{sameText, placed}
 use Rattle.text.proofs.SameTexts.{same-refl}
 use Rattle.text.proofs.PlacedTexts.{placed-start}
@@ -24,32 +23,28 @@ use Rattle.layout.proofs.Each.{Each, each-count}
 use Rattle.layout.proofs.Fits.{SettingFits, RecordFits, BookFits, no-lasts}
 use Rattle.layout.proofs.ReadBack.{book-back}
 use Rattle.layout.proofs.Promises.{good-reads-back, undamaged-says, says-by}
-use Rattle.layout.proofs.Frame.{frame-written, frame-by}
+use Rattle.layout.proofs.Frame.{Frame, frame-written, frame-by, book-frame}
 use Rattle.carrying.specs.Carrying.{carried, carriedOver, CarriesOver}
-use Rattle.carrying.specs.OldForm.{oldForm}
+use Rattle.carrying.specs.OldForm.{oldForm, wider}
 use Rattle.carrying.proofs.OldForms.{form-facts, formed-test, formed-frame, frame-formed}
-
--- the number of no bytes
-none-at : (s : List ℕ) (at : ℕ) → numberAt 0 s at ≡ 0
-unfolding value
-none-at s at =
-    either (leb (at + 0) (length s))
-    (λ there. number-within 0 s at (leb-true _ _ there))
-    (λ beyond. number-beyond 0 s at (leb-false _ _ beyond))
+use Rattle.carrying.proofs.Wider.{old-last, wider-is, zeros-old}
 
 module _ (s : List ℕ) where
-  pub old-last : (i : ℕ) → recordAtBy one s i .last ≡ 0
-  unfolding recordAtBy
-  old-last i = none-at s (recordPlaceBy one i + 24)
-
   lasts-from : (i n : ℕ) → noLasts (eachFrom (recordAtBy one s) i n) ≡ true
   unfolding noLasts eachFrom
   lasts-from i zero = refl
-  lasts-from i (suc n) = rw (eq-eqb _ 0 (old-last i), lasts-from (suc i) n)
+  lasts-from i (suc n) = rw (eq-eqb _ 0 (old-last s i), lasts-from (suc i) n)
 
   pub old-lasts : noLasts (bookOfBy one s .records) ≡ true
   unfolding bookOfBy
   old-lasts = lasts-from 0 (recordCountBy one s)
+
+-- an undamaged one has the frame, and so the form
+pub old-frame : (s : List ℕ) → isBookBy one s ≡ true → Frame one s
+old-frame s undamaged = frame-by one s undamaged (no-lasts (bookOfBy one s .records) (old-lasts s))
+
+old-form : (s : List ℕ) → isBookBy one s ≡ true → oldForm s ≡ true
+old-form s undamaged = formed-test s (frame-formed s (old-frame s undamaged))
 
 -- what holds wherever it is read holds of each
 each-from : {A : Type 0} (Holds : A → Type 0) (at : ℕ → A) → ((i : ℕ) → Holds (at i)) → (i n : ℕ) → Each Holds (eachFrom at i n)
@@ -71,12 +66,13 @@ module _ (s : List ℕ) (below : Below 256 s) where
   unfolding recordAtBy
   record-read i =
       let at = recordPlaceBy one i in
+      let last-none : numberAt 0 s (at + 24) ≡ 0 = old-last s i in
       record {
         name = number-at-below 9 s at below;
         edition = number-at-below 2 s (at + 9) below;
         key1 = number-at-below 5 s (at + 11) below;
         key2 = number-at-below 5 s (at + 16) below;
-        last = omega (arith, none-at s (at + 24));
+        last = omega (arith, last-none);
       }
 
   module _ (form : oldForm s ≡ true) where
@@ -96,25 +92,22 @@ module _ (s : List ℕ) (below : Below 256 s) where
     old-back : bookOf (carried s) ≡ bookOfBy one s
     old-back = book-back two (bookOfBy one s) old-fits
 
-    -- and where that is good it is undamaged
-    old-good : isGood (bookOfBy one s) ≡ true → isBookBy one s ≡ true
+    -- where that is good, and three zeros end each record, it is undamaged
+    old-good : Frame one s → isGood (bookOfBy one s) ≡ true → isBookBy one s ≡ true
     unfolding isBookBy
-    old-good good =
-        rw (
-          eq-eqb (length s) (bookSizeBy one) (form-facts s form .size),
-          ap (sameText s) (frame-written one s below (formed-frame s (form-facts s form))) ∙ same-refl s,
-        )
-        good
+    old-good frame good =
+        rw (eq-eqb (length s) (bookSizeBy one) (frame .size), ap (sameText s) (frame-written one s below frame) ∙ same-refl s) good
 
-    pub old-judged : isBook (carried s) ≡ isBookBy one s
+    pub old-judged : isBook (wider s) ≡ isBookBy one s
     old-judged =
-        same-tests (isBook (carried s)) (isBookBy one s)
-        (λ undamaged. old-good (sym (ap isGood old-back) ∙ undamaged-says (carried s) undamaged .0))
-        (λ undamaged. good-reads-back (bookOfBy one s) (says-by one s undamaged .0) .0)
-
--- an undamaged one has the form
-pub old-form : (s : List ℕ) → isBookBy one s ≡ true → oldForm s ≡ true
-old-form s undamaged = formed-test s (frame-formed s (frame-by one s undamaged (no-lasts (bookOfBy one s .records) (old-lasts s))))
+        same-tests (isBook (wider s)) (isBookBy one s)
+        (λ undamaged.
+        let frame : Frame one s = formed-frame s (form-facts s form) (zeros-old s below (form-facts s form) (book-frame (wider s) undamaged)) in
+        let new : isBook (carried s) ≡ true = sym (ap isBook (wider-is s below (form-facts s form) frame)) ∙ undamaged in
+        old-good frame (sym (ap isGood old-back) ∙ undamaged-says (carried s) new .0))
+        (λ undamaged.
+        ap isBook (wider-is s below (form-facts s form) (old-frame s undamaged))
+        ∙ good-reads-back (bookOfBy one s) (says-by one s undamaged .0) .0)
 
 pub carries-over : CarriesOver
 carries-over s undamaged =

@@ -6,9 +6,9 @@ ghost use Prim.Native.Nat.{_+_, _≤_};
 ghost use lib.ListN.{length};
 ghost use Rattle.text.specs.Texts.{placed};
 ghost use Rattle.forms.specs.Output.{writtenNumber, writtenOf, lentAfter};
-ghost use Rattle.layout.specs.Layout.{one, recordSizeBy, recordCountBy, usedLengthBy, bookOfBy, recordsPlace, recordSize, bookSize, recordBytes, allBytes, allFrom, zeros};
-ghost use Rattle.carrying.specs.Carrying.{carried, carriedOver};
-ghost use Rattle.carrying.specs.OldForm.{zerosEnd, oldForm};
+ghost use Rattle.layout.specs.Layout.{one, recordSizeBy, recordsPlace, recordSize, bookSize, zeros};
+ghost use Rattle.carrying.specs.Carrying.{carriedOver};
+ghost use Rattle.carrying.specs.OldForm.{oldForm, widerRecords, wider};
 use bytes::numbers::number32;
 use layout::BOOK_SIZE;
 use layout::MOST_RECORDS;
@@ -20,23 +20,7 @@ use layout::SETTINGS_PLACE;
 use layout::old_count;
 use text::writing::put_text;
 
-// Whether three zeros end each of the first n records of a version 1 book.
-fn zeros_end(book: &[u8], n: usize) -> bool
-    requires { ⌜ usedLengthBy one n ≤ length (now book) ⌝ }
-    ensures { λ r. ⌜ r ≡ allFrom (zerosEnd (now (book .entry))) 0 n ⌝ }
-{
-    let mut i: usize = 0;
-    while i < n {
-        let at = RECORDS_PLACE + OLD_RECORD_SIZE * i;
-        if number32(book, at + 20) % 16777216 != 0 {
-            return false;
-        }
-        i += 1;
-    }
-    true
-}
-
-// Whether the bytes have the form of a version 1 book: length, version, used length, and all the zeros.
+// Whether the bytes have the form of a version 1 book: length, version, used length, and zeros past it.
 fn is_old_form(book: &[u8]) -> bool
     ensures { λ r. ⌜ r ≡ oldForm (now (book .entry)) ⌝ }
 {
@@ -53,9 +37,6 @@ fn is_old_form(book: &[u8]) -> bool
     if number32(book, 1) as usize != RECORDS_PLACE + OLD_RECORD_SIZE * n {
         return false;
     }
-    if !zeros_end(book, n) {
-        return false;
-    }
     judging::is_zero(&book[RECORDS_PLACE + OLD_RECORD_SIZE * n..])
 }
 
@@ -69,10 +50,10 @@ fn put_record(new: &mut [u8], at: usize, part: &[u8])
     put_text(new, at + OLD_RECORD_SIZE, &none);
 }
 
-// Writes the records of a version 1 book.
+// Writes the records of a version 1 book, each with no last expiry.
 fn put_records(new: &mut [u8], book: &[u8])
     requires { ⌜ (oldForm (now book) ≡ true) × (length (now new) ≡ bookSize) ⌝ }
-    ensures { λ _. ⌜ now (new .exit) ≡ placed recordsPlace (allBytes recordBytes (bookOfBy one (now (book .entry)) .records)) (now (new .entry)) ⌝ }
+    ensures { λ _. ⌜ now (new .exit) ≡ placed recordsPlace (widerRecords (now (book .entry))) (now (new .entry)) ⌝ }
 {
     let n = old_count(book);
     let mut i: usize = 0;
@@ -87,10 +68,10 @@ fn put_records(new: &mut [u8], book: &[u8])
     }
 }
 
-// Writes what a version 1 book says, on zeros, as a version 2 book.
-fn put_carried(new: &mut [u8], book: &[u8])
+// Writes a version 1 book, on zeros, as a version 2 book.
+fn put_book(new: &mut [u8], book: &[u8])
     requires { ⌜ (oldForm (now book) ≡ true) × (now new ≡ zeros bookSize) ⌝ }
-    ensures { λ _. ⌜ now (new .exit) ≡ carried (now (book .entry)) ⌝ }
+    ensures { λ _. ⌜ now (new .exit) ≡ wider (now (book .entry)) ⌝ }
 {
     let version = [2u8];
     let used = bytes::numbers::bytes32((RECORDS_PLACE + RECORD_SIZE * old_count(book)) as u32);
@@ -110,7 +91,7 @@ pub fn carry_over(book: &[u8], new: &mut [u8]) -> u32
         return 101;
     }
     let mut carried = [0u8; BOOK_SIZE];
-    put_carried(&mut carried, book);
+    put_book(&mut carried, book);
     if !judging::is_book(&carried) {
         return 101;
     }

@@ -11,7 +11,9 @@ use Rattle.bytes.specs.Numbers.{Below}
 use Rattle.text.specs.Texts.{placed}
 use Rattle.layout.specs.Layout.{one, isBookBy, isBook}
 use Rattle.carrying.specs.OldForm.{oldForm}
-use Rattle.carrying.proofs.OldBooks.{old-judged, is-damaged, no-form, wrong-size, is-carried}
+use Rattle.carrying.proofs.OldForms.{form-facts}
+use Rattle.carrying.proofs.Wider.{wider-is}
+use Rattle.carrying.proofs.OldBooks.{old-frame, old-judged, is-damaged, no-form, wrong-size, is-carried}
 use Rattle.carrying.proofs.carry_over.Statement.{statement}
 use Rattle.carrying.proofs.carry_over.Tie as tie
 
@@ -32,11 +34,11 @@ module _ (c : tie.Else1) where
   below : Below 256 book
   below k = omega (arith, c .before .before .before .shared-slice-known .given k)
 
-slice-aggregate-put-carried : tie.Need-slice-aggregate-put-carried
-slice-aggregate-put-carried c = search needs
+slice-aggregate-put-book : tie.Need-slice-aggregate-put-book
+slice-aggregate-put-book c = search needs
 
-put-carried-requires : tie.Need-put-carried-requires
-put-carried-requires c κs = (formed (c .before), refl)
+put-book-requires : tie.Need-put-book-requires
+put-book-requires c κs = (formed (c .before), refl)
 
 slice-aggregate-is-book : tie.Need-slice-aggregate-is-book
 slice-aggregate-is-book c = search needs
@@ -49,7 +51,7 @@ judged : (c : tie.After-is-book) → let form = c .before .before .before .befor
 judged c =
     let put = c .before .before .before in
     let form = put .before .before in
-    c .is-book .ensures ∙ ap isBook (put .put-carried .ensures) ∙ old-judged (book form) (below form) (formed form)
+    c .is-book .ensures ∙ ap isBook (put .put-book .ensures) ∙ old-judged (book form) (below form) (formed form)
 
 returns-2 : tie.Need-returns-2
 returns-2 c = is-damaged _ _ (sym (judged (c .before)) ∙ not-true _ (c .if2 .taken))
@@ -73,8 +75,12 @@ returns-4 c =
     let found = sized .before .before in
     let put = found .before .before .before in
     let lent : List ℕ = found .before .before .before .before .before .before .before .before .before .args .new .now in
-    is-carried _ _ (sym (judged found) ∙ not-false _ (sized .before .if2 .left)) (sized .if3 .left) _
-    (wrote .put-text .ensures ∙ ap (λ (t : List ℕ). placed 0 t lent) (put .put-carried .ensures))
+    let form = put .before .before in
+    let undamaged : isBookBy one (book form) ≡ true = sym (judged found) ∙ not-false _ (sized .before .if2 .left) in
+    is-carried _ _ undamaged (sized .if3 .left) _
+    (wrote .put-text .ensures
+    ∙ ap (λ (t : List ℕ). placed 0 t lent)
+    (put .put-book .ensures ∙ wider-is (book form) (below form) (form-facts (book form) (formed form)) (old-frame (book form) undamaged)))
 
 pub carry-over-spec : {M : Type 1} → statement M
 carry-over-spec =
@@ -82,8 +88,8 @@ carry-over-spec =
     (tie.spec
     is-old-form-requires
     returns
-    slice-aggregate-put-carried
-    put-carried-requires
+    slice-aggregate-put-book
+    put-book-requires
     slice-aggregate-is-book
     is-book-requires
     returns-2

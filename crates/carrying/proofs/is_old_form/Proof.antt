@@ -4,14 +4,13 @@ use mathlib.Core.Path.{_≡_, sym, ap, _∙_}
 use Prim.Native.Nat.{ℕ, _-_}
 use native.Mathlib.Omega.{arith}
 use borrow.Author.Needs.{needs}
-use borrow.Author.Tests.{not-true, not-false}
 use lib.ListN.{length, drop, length-drop}
 use lib.Seq.{take-all}
 use Rattle.bytes.specs.Every.{allOf}
-use Rattle.layout.specs.Layout.{one, usedLengthBy, recordCountBy, allFrom}
-use Rattle.layout.proofs.Decides.{part-fails, fact-fails, last-decides}
+use Rattle.layout.specs.Layout.{one, usedLengthBy, recordCountBy}
+use Rattle.layout.proofs.Decides.{fact-fails, last-decides}
 use Rattle.judging.specs.Judging.{isZero}
-use Rattle.carrying.specs.OldForm.{zerosEnd, oldForm}
+use Rattle.carrying.specs.OldForm.{oldForm}
 use Rattle.carrying.proofs.OldForms.{form-facts, formed-test}
 use Rattle.carrying.proofs.is_old_form.Statement.{statement}
 use Rattle.carrying.proofs.is_old_form.Tie as tie
@@ -50,16 +49,6 @@ returns-4 c =
     sym (fact-fails _ (form-facts _) (formed-test _)
     (λ formed. c .if4 .taken (c .before .number32 .ensures ∙ formed .used ∙ ap (usedLengthBy one) (sym (counted .old-count .ensures)))))
 
-zeros-end-requires : tie.Need-zeros-end-requires
-zeros-end-requires c κs = search needs
-
-returns-5 : tie.Need-returns-5
-returns-5 c =
-    let counted = c .before .before .before .before .before in
-    let book = counted .before .before .before .before .before .args .book .now in
-    sym (part-fails _ (form-facts _) (formed-test _) _
-    (λ formed. c .before .zeros-end .ensures ∙ ap (allFrom (zerosEnd book) 0) (counted .old-count .ensures) ∙ formed .zeros) (not-true _ (c .if5 .taken)))
-
 mul-is-zero : tie.Need-mul-is-zero
 mul-is-zero c = search needs
 
@@ -78,11 +67,10 @@ part-is-zero-end c = search needs
 is-zero-requires : tie.Need-is-zero-requires
 is-zero-requires c κs = search needs
 
-returns-6 : tie.Need-returns-6
-returns-6 c =
+returns-5 : tie.Need-returns-5
+returns-5 c =
     let last = c .before .before in
-    let zeros = last .before in
-    let counted = zeros .before .before .before .before in
+    let counted = last .before .before .before in
     let book = counted .before .before .before .before .before .args .book .now in
     let used = usedLengthBy one (counted .old-count .result) in
     let n : counted .old-count .result ≡ recordCountBy one book = counted .old-count .ensures in
@@ -95,9 +83,8 @@ returns-6 c =
     (λ all. record {
       size = counted .before .before .before .if1 .left;
       version = counted .before .if2 .left;
-      few = omega (arith, n, zeros .before .before .before .if3 .left);
-      used = sym (zeros .before .before .number32 .ensures) ∙ zeros .before .if4 .left ∙ ap (usedLengthBy one) n;
-      zeros = sym (ap (allFrom (zerosEnd book) 0) n) ∙ sym (zeros .zeros-end .ensures) ∙ not-false _ (last .if5 .left);
+      few = omega (arith, n, last .before .before .if3 .left);
+      used = sym (last .before .number32 .ensures) ∙ last .if4 .left ∙ ap (usedLengthBy one) n;
       rest = sym tested ∙ all;
     })
 
@@ -115,12 +102,10 @@ is-old-form-spec =
     mul-if4
     add-if4
     returns-4
-    zeros-end-requires
-    returns-5
     mul-is-zero
     add-is-zero
     sub-is-zero
     part-is-zero-start
     part-is-zero-end
     is-zero-requires
-    returns-6)
+    returns-5)

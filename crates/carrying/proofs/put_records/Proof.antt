@@ -10,9 +10,8 @@ use Rattle.bytes.specs.Numbers.{Below}
 use Rattle.bytes.proofs.Places.{part-length}
 use Rattle.text.specs.Texts.{part, placed}
 use Rattle.layout.specs.Layout.{one, recordSizeBy, recordCountBy, recordPlaceBy, recordPlace, zeros}
-use Rattle.layout.proofs.Frame.{Frame}
 use Rattle.judging.proofs.Parts.{part-lent}
-use Rattle.carrying.proofs.OldForms.{Formed, form-facts, formed-frame}
+use Rattle.carrying.proofs.OldForms.{Formed, form-facts}
 use Rattle.carrying.proofs.Puts.{RecordsPut, records-none, records-next, records-all}
 use Rattle.carrying.proofs.put_records.Statement.{statement}
 use Rattle.carrying.proofs.put_records.Tie as tie
@@ -37,14 +36,11 @@ module _ (c : tie.After-old-count Inv-loop μ-loop) where
   formed : Formed book
   formed = form-facts book (start .pre .0)
 
-  frame : Frame one book
-  frame = formed-frame book formed
-
   below : Below 256 book
   below k = omega (arith, c .before .shared-slice-known .given k)
 
 loop-holds : tie.Need-loop-holds Inv-loop μ-loop
-loop-holds c = records-none (book c) (below c) (frame c) (start c .pre .1)
+loop-holds c = records-none (book c) (below c) (formed c) (start c .pre .1)
 
 -- record i is there, and it is copied whole
 module _ (c : tie.In-loop Inv-loop μ-loop) where
@@ -105,7 +101,7 @@ loop-again : tie.Need-loop-again Inv-loop μ-loop
 loop-again c =
     let put = c .before .before in
     let turn = put .before .before .before in
-    records-next (book (counted turn)) (below (counted turn)) (frame (counted turn)) (turn .before .loop .inv) (more turn) _
+    records-next (book (counted turn)) (below (counted turn)) (formed (counted turn)) (turn .before .loop .inv) (more turn) _
     (put .put-record .ensures ∙ ap (λ (l : List ℕ). placed (recordPlace (i turn)) (l ++ zeros 4) (turn .before .loop .new)) (lent turn))
 
 same-length : tie.Need-same-length Inv-loop μ-loop
@@ -114,7 +110,7 @@ same-length c = c .before .loop .inv .put .same
 returns : tie.Need-returns Inv-loop μ-loop
 returns c =
     let counted = c .before .before in
-    records-all (book counted) (below counted) (frame counted) (c .before .loop .inv) (omega (arith, counted .old-count .ensures, c .loop-test .left))
+    records-all (book counted) (below counted) (formed counted) (c .before .loop .inv) (omega (arith, counted .old-count .ensures, c .loop-test .left))
 
 pub put-records-spec : {M : Type 1} → statement M
 put-records-spec =

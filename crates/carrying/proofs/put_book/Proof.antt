@@ -1,4 +1,4 @@
--- `carrying::put_carried` meets its contract: the version, the used length, the settings and the records, one after the other.
+-- `carrying::put_book` meets its contract: the version, the used length, the settings and the records, one after the other.
 -- Assumes nothing.
 use mathlib.Core.Path.{ap, _∙_}
 use mathlib.Core.List.{List}
@@ -10,10 +10,10 @@ use Rattle.bytes.specs.Numbers.{Below, bytesOf}
 use Rattle.text.specs.Texts.{placed}
 use Rattle.text.proofs.PlacedTexts.{length-placed}
 use Rattle.layout.specs.Layout.{bookSize, usedLength}
-use Rattle.carrying.proofs.OldForms.{Formed, form-facts, formed-frame}
-use Rattle.carrying.proofs.Puts.{carried-put}
-use Rattle.carrying.proofs.put_carried.Statement.{statement}
-use Rattle.carrying.proofs.put_carried.Tie as tie
+use Rattle.carrying.proofs.OldForms.{Formed, form-facts}
+use Rattle.carrying.proofs.Puts.{wider-put}
+use Rattle.carrying.proofs.put_book.Statement.{statement}
+use Rattle.carrying.proofs.put_book.Tie as tie
 
 old-count-requires : tie.Need-old-count-requires
 old-count-requires c κs = search needs
@@ -92,7 +92,7 @@ returns c =
     let first = second .before .before .before .before .before in
     let told = first .before .before .before in
     let counted = told .before in
-    carried-put (book counted) (below counted) (formed-frame (book counted) (formed counted))
+    wider-put (book counted) (below counted) (formed counted)
     (start counted .args .new .now) (first .put-text .last .0) (second .put-text2 .last .0) (third .put-text3 .last .0) _
     (start counted .pre .1)
     (first .put-text .ensures)
@@ -102,8 +102,8 @@ returns c =
     (third .put-text3 .ensures)
     (fourth .put-records .ensures)
 
-pub put-carried-spec : {M : Type 1} → statement M
-put-carried-spec =
+pub put-book-spec : {M : Type 1} → statement M
+put-book-spec =
     tie.close
     (tie.spec
     old-count-requires
