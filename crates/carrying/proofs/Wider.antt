@@ -37,7 +37,7 @@ use Rattle.layout.specs.Layout.{
   allBytes,
   eachFrom,
 }
-use Rattle.layout.proofs.Versions.{place-next, used-below, used-counts, used-most, record-within}
+use Rattle.layout.proofs.Versions.{place-next, used-below, used-counts}
 use Rattle.layout.proofs.Each.{Each, each-count, each-is, each-back}
 use Rattle.layout.proofs.ReadBack.{number-back}
 use Rattle.layout.proofs.Written.{record-written}
