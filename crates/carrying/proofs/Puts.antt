@@ -7,7 +7,6 @@ use native.Mathlib.Omega.{arith}
 use lib.ListN.{length, drop, length-append, length-replicate}
 use Rattle.bytes.specs.Numbers.{Below, bytesOf}
 use Rattle.bytes.proofs.Digits.{digits-length}
-use Rattle.bytes.proofs.Places.{part-length}
 use Rattle.text.specs.Texts.{part, placed}
 use Rattle.text.proofs.PlacedTexts.{placed-start, placed-next}
 use Rattle.layout.specs.Layout.{one, two, recordSizeBy, recordPlaceBy, recordCountBy, settingsPlace, recordsPlace, recordSize, bookSize, usedLength, recordPlace, zeros, eachFrom}
@@ -17,7 +16,7 @@ use Rattle.layout.proofs.AllPut.{AllPut, put-none, put-next, put-all}
 use Rattle.layout.proofs.Sizes.{drop-zeros}
 use Rattle.carrying.specs.OldForm.{oldRecord, widerBytes, widerRecords, wider}
 use Rattle.carrying.proofs.OldForms.{Formed}
-use Rattle.carrying.proofs.Wider.{wider-size, wider-record}
+use Rattle.carrying.proofs.Wider.{wider-size, wider-record, settings-size}
 
 -- the records before i are put
 pub record RecordsPut (s s₀ new : List ℕ) (i : ℕ) : Type 0 where
@@ -50,13 +49,13 @@ module _ (s : List ℕ) (below : Below 256 s) (formed : Formed s) where
   abbrev all : List ℕ
   all = (((2 ∷ []) ++ used) ++ settings) ++ widerRecords s
 
-  settings-size : length settings ≡ 96
-  settings-size = part-length 96 s settingsPlace (omega (arith, formed .size))
+  settings-are : length settings ≡ 96
+  settings-are = settings-size s below formed
 
   all-size : length all ≡ usedLength n
   all-size =
       simp (length-append, digits-length)
-      (omega (arith, settings-size, bytes-size recordSize widerBytes wider-size (eachFrom (oldRecord s) 0 n), each-count (oldRecord s) 0 n))
+      (omega (arith, settings-are, bytes-size recordSize widerBytes wider-size (eachFrom (oldRecord s) 0 n), each-count (oldRecord s) 0 n))
 
   -- the version, the used length, the settings and the records on zeros
   pub wider-put : (s₀ s₁ s₂ s₃ s₄ : List ℕ) → s₀ ≡ zeros bookSize → s₁ ≡ placed 0 (2 ∷ []) s₀ → s₂ ≡ placed 1 used s₁
@@ -67,10 +66,10 @@ module _ (s : List ℕ) (below : Below 256 s) (formed : Formed s) where
       let two-put : s₂ ≡ placed 0 ((2 ∷ []) ++ used) s₀ = e₂ ∙ ap (placed 1 used) e₁ ∙ placed-next 0 1 (2 ∷ []) used s₀ refl (omega arith) in
       let three-put : s₃ ≡ placed 0 (((2 ∷ []) ++ used) ++ settings) s₀ =
       e₃ ∙ ap (placed settingsPlace settings) two-put
-      ∙ placed-next 0 settingsPlace ((2 ∷ []) ++ used) settings s₀ (simp length-append (omega arith)) (simp length-append (omega (arith, settings-size))) in
+      ∙ placed-next 0 settingsPlace ((2 ∷ []) ++ used) settings s₀ (simp length-append (omega arith)) (simp length-append (omega (arith, settings-are))) in
       let count : bookSize ≡ usedLength n + (bookSize - usedLength n) = omega (arith, used-most two n (formed .few)) in
       e₄ ∙ ap (placed recordsPlace (widerRecords s)) three-put
-      ∙ placed-next 0 recordsPlace (((2 ∷ []) ++ used) ++ settings) (widerRecords s) s₀ (simp length-append (omega (arith, settings-size)))
+      ∙ placed-next 0 recordsPlace (((2 ∷ []) ++ used) ++ settings) (widerRecords s) s₀ (simp length-append (omega (arith, settings-are)))
       (omega (arith, length-append (((2 ∷ []) ++ used) ++ settings) (widerRecords s), all-size, used-most two n (formed .few)))
       ∙ placed-start all s₀ (omega (arith, all-size, used-most two n (formed .few)))
       ∙ ap₂ (λ (k : ℕ) (l : List ℕ). all ++ drop k l) all-size e₀

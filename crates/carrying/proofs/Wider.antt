@@ -96,7 +96,7 @@ module _ (s : List ℕ) (below : Below 256 s) (formed : Formed s) where
   wider-record i more =
       ap (λ (l : List ℕ). l ++ zeros 4) (sym (bytes-at (recordSizeBy one) s (recordPlaceBy one i) below (inside i more)))
 
-  settings-size : length (part 96 s settingsPlace) ≡ 96
+  pub settings-size : length (part 96 s settingsPlace) ≡ 96
   settings-size = part-length 96 s settingsPlace (omega (arith, formed .size))
 
   abbrev front : List ℕ
