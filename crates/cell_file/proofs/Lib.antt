@@ -1,0 +1,2 @@
+pub mod WholeBlocks
+pub mod CutAnywhere

@@ -1,0 +1,2 @@
+pub mod Enciphering
+pub mod CutAnywhere

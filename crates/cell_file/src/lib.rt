@@ -1,0 +1,1 @@
+// Cell files enciphered.
