@@ -37,7 +37,7 @@ use Rattle.cell_file.specs.CutAnywhere.{joined, EachFits, InParts, end, 
 use Rattle.cell_file.proofs.WholeBlocks.{carried-length, file-length, padded-cut}
 
 -- a text is no refusal
-no-refusal : (n : ℕ) (t : List ℕ) → refusal n ≡ text t → ⊥
+pub no-refusal : (n : ℕ) (t : List ℕ) → refusal n ≡ text t → ⊥
 no-refusal n t e = let z : _≡_ {A = ℕ} 0 1 = cc in omega arith
 
 no-part : (n : ℕ) (t c : List ℕ) → refused n ≡ blocks t c → ⊥

@@ -46,6 +46,11 @@ pub data Opened : Type 0 where
   opened : ℕ → List ℕ → Opened
   refused : ℕ → Opened
 
+-- the answer's number: 0 for done
+abbrev pub openedNumber : Opened → ℕ
+openedNumber (opened key t) = 0
+openedNumber (refused n) = n
+
 -- the length is no zero and a multiple of 8
 abbrev pub hasBlocks : List ℕ → Bool
 hasBlocks file = leb 1 (length file) && eqb (length file % 8) 0

@@ -1,0 +1,2 @@
+pub mod FilePadding
+pub mod ReadBack
