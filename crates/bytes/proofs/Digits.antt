@@ -23,6 +23,11 @@ take-below (suc n) (c ∷ s) below (suc i) = take-below n s (λ j. below (suc j)
 pub drop-below : {b : ℕ} (n : ℕ) (s : List ℕ) → Below b s → Below b (drop n s)
 drop-below n s below i = rw getD-drop (below (n + i))
 
+pub append-below : {b : ℕ} (s t : List ℕ) → Below b s → Below b t → Below b (s ++ t)
+append-below [] t hs ht i = ht i
+append-below (c ∷ s) t hs ht zero = hs 0
+append-below (c ∷ s) t hs ht (suc i) = append-below s t (λ j. hs (suc j)) ht i
+
 pub set-below : {b : ℕ} (s : List ℕ) (i v : ℕ) → Below b s → v < b → Below b (set s i v)
 set-below [] i v h hv k = h k
 set-below (x ∷ l) zero v h hv zero = hv

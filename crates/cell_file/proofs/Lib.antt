@@ -1,2 +1,6 @@
 pub mod WholeBlocks
 pub mod CutAnywhere
+pub mod Keys
+pub mod Gathering
+pub mod LastBlock
+pub mod Pieces

@@ -2,15 +2,15 @@
 -- Assumes nothing.
 use mathlib.Core.Path.{_≡_, refl, sym, ap, ap₂, _∙_}
 use mathlib.Core.Bool.{Bool, true, false, cond, _&&_, _||_}
-use mathlib.Core.List.{List, [], _∷_, _++_}
-use Prim.Native.Nat.{ℕ, zero, suc, _+_, _-_, _*_, _/_, _%_, _^_, _≤_, _<_}
+use mathlib.Core.List.{List}
+use Prim.Native.Nat.{ℕ, _+_, _-_, _*_, _/_, _%_, _^_, _≤_, _<_}
 use native.Mathlib.Omega.{arith}
 use borrow.Author.Tests.{le-leb, leb-true, eq-eqb}
 use lib.Dec.{leb, eqb}
 use lib.ListN.{length, take, replicate}
 use lib.Seq.{take-all}
 use Rattle.bytes.specs.Numbers.{Below, bytesOf}
-use Rattle.bytes.proofs.Digits.{digits-below, replicate-below}
+use Rattle.bytes.proofs.Digits.{append-below, digits-below, replicate-below}
 use Rattle.bytes.proofs.Every.{and-first, and-second, either}
 use Rattle.crc32.specs.Crc32.{crc32Of}
 use Rattle.blowfish.specs.Cipher.{encipherOf, decipherOf}
@@ -28,11 +28,6 @@ use Rattle.cell_file.proofs.CutAnywhere.{no-refusal}
 use Rattle.cell_opening.specs.Opening.{deciphered, givesPadding, textUnder, isRightKey, hasBlocks, opened, refused, openedNumber, openedFile}
 use Rattle.cell_opening.specs.ReadBack.{OpensUnderOne, OpensUnderTwo, WhichComes, KeepsApart}
 use Rattle.cell_opening.proofs.FilePadding.{padded-right, unpadded-again}
-
-append-below : {b : ℕ} (s t : List ℕ) → Below b s → Below b t → Below b (s ++ t)
-append-below [] t hs ht i = ht i
-append-below (c ∷ s) t hs ht zero = hs 0
-append-below (c ∷ s) t hs ht (suc i) = append-below s t (λ j. hs (suc j)) ht i
 
 -- the words of a cell key have 32 bits
 cell-words : (key : ℕ) → Below (2 ^ 32) (cellWords key)

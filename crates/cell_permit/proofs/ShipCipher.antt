@@ -1,15 +1,15 @@
 -- Under the words of a ship a cell key is found again, and the check tells apart the CRC-32s that it was made of.
 -- Assumes nothing.
 use mathlib.Core.Path.{_≡_, sym, ap, _∙_}
-use mathlib.Core.List.{List, [], _∷_, _++_}
-use Prim.Native.Nat.{ℕ, zero, suc, _^_, _≤_, _<_}
+use mathlib.Core.List.{List}
+use Prim.Native.Nat.{ℕ, _^_, _≤_, _<_}
 use native.Mathlib.Omega.{arith}
 use lib.Dec.{lit<}
 use lib.ListN.{take}
 use Rattle.bytes.specs.Numbers.{Below, bytesOf}
 use Rattle.bytes.specs.Padding.{padOf}
 use Rattle.bytes.specs.declared.numbers.Reading.the-variants.{Number}
-use Rattle.bytes.proofs.Digits.{take-below, digits-below}
+use Rattle.bytes.proofs.Digits.{take-below, append-below, digits-below}
 use Rattle.bytes.proofs.Pads.{pad-below, pad-injective, unpad-pad-fit}
 use Rattle.crc32.specs.Crc32.{crc32Of}
 use Rattle.blowfish.specs.Cipher.{encipherOf, decipherOf}
@@ -17,11 +17,6 @@ use Rattle.blowfish.proofs.Words.{number-back, blocks-stay-blocks, keys-have-wo
 use Rattle.forms.specs.Identifiers.{raisedHwId, hwId6}
 use Rattle.cell_permit.specs.CellPermit.{shipWords, checkOf}
 use Rattle.cell_permit.specs.Line.{keyUnder}
-
-append-below : {b : ℕ} (s t : List ℕ) → Below b s → Below b t → Below b (s ++ t)
-append-below [] t hs ht i = ht i
-append-below (c ∷ s) t hs ht zero = hs 0
-append-below (c ∷ s) t hs ht (suc i) = append-below s t (λ j. hs (suc j)) ht i
 
 pub ship-words : (hw : ℕ) → Below (2 ^ 32) (shipWords hw)
 unfolding shipWords hwId6
