@@ -1,0 +1,2 @@
+pub mod EachBlocks
+pub mod FourRounds
