@@ -5,18 +5,28 @@ use mathlib.Core.List.{List, [], _∷_, _++_, append-assoc}
 use Prim.Native.Nat.{ℕ, zero, suc, _+_, _-_, _*_, _≤_, _<_}
 use native.Mathlib.Nat.{add-zero, add-suc}
 use native.Mathlib.Omega.{arith}
+use borrow.Author.Tests.{ltb-true, ltb-false}
+use lib.Dec.{ltb}
 use lib.ListN.{length, getD, take, drop, set, length-append, length-drop}
 use lib.Seq.{length-take-le, take-at, drop-append-add, drop-drop, sets, sets-eq}
 use Rattle.bytes.specs.Numbers.{bytesOf}
 use Rattle.bytes.specs.Places.{numberAt}
 use Rattle.bytes.proofs.Digits.{digits-length}
-use Rattle.blocks.specs.Blocks.{eachBlock}
+use Rattle.bytes.proofs.Every.{either}
+use Rattle.blocks.specs.Blocks.{eachBlock, blocksOfBoth}
 use Rattle.blocks.specs.Fours.{blockPut, allPut}
 
 pub each-block-length : (f : ℕ → ℕ) (n : ℕ) (s : List ℕ) → length (eachBlock f n s) ≡ 8 * n
 unfolding eachBlock
 each-block-length f zero s = refl
 each-block-length f (suc n) s = simp (length-append, digits-length) (omega (arith, each-block-length f n s))
+
+-- so many blocks lie within both
+pub both-room : (s out : List ℕ) → (8 * blocksOfBoth s out ≤ length s) × (8 * blocksOfBoth s out ≤ length out)
+both-room s out =
+    either (ltb (length s) (length out))
+    (λ e. rw e (let h = ltb-true (length s) (length out) e in (omega arith, omega arith)))
+    (λ e. rw e (let h = ltb-false (length s) (length out) e in (omega arith, omega arith)))
 
 module _ (f : ℕ → ℕ) (s out : List ℕ) where
   -- what stands there when the first n blocks are put
@@ -37,10 +47,10 @@ module _ (f : ℕ → ℕ) (s out : List ℕ) where
       let size = each-block-length f n s in
       let one-more : 8 * n + 8 ≡ 8 * suc n = omega arith in
       let rest : drop (8 * n + 8) (worked n) ≡ drop (8 * suc n) out =
-          ap (λ (k : ℕ). drop (k + 8) (worked n)) (sym size)
-          ∙ drop-append-add (eachBlock f n s) (drop (8 * n) out) 8
-          ∙ drop-drop 8 (8 * n) out
-          ∙ ap (λ (k : ℕ). drop k out) one-more in
+      ap (λ (k : ℕ). drop (k + 8) (worked n)) (sym size)
+      ∙ drop-append-add (eachBlock f n s) (drop (8 * n) out) 8
+      ∙ drop-drop 8 (8 * n) out
+      ∙ ap (λ (k : ℕ). drop k out) one-more in
       ap (λ (l : List ℕ). l ++ (bytesOf 8 (f (numberAt 8 s (8 * n))) ++ drop (8 * n + 8) (worked n)))
       (take-at (eachBlock f n s) (drop (8 * n) out) (8 * n) size)
       ∙ ap (λ (l : List ℕ). eachBlock f n s ++ (bytesOf 8 (f (numberAt 8 s (8 * n))) ++ l)) rest
@@ -85,5 +95,5 @@ eight-stores out at a b c d e f g h fits =
     let e₇ : at + 7 ≡ suc (suc (suc (suc (suc (suc (suc at)))))) = omega arith in
     let bytes : List ℕ = a ∷ b ∷ c ∷ d ∷ e ∷ f ∷ g ∷ h ∷ [] in
     let all : sets out at bytes ≡ take at out ++ (bytes ++ drop (at + 8) out) =
-        sets-eq bytes out at fits ∙ append-assoc (take at out) bytes (drop (at + 8) out) in
+    sets-eq bytes out at fits ∙ append-assoc (take at out) bytes (drop (at + 8) out) in
     rw (e₁, e₂, e₃, e₄, e₅, e₆, e₇) all

@@ -7,7 +7,7 @@ use native.Mathlib.Nat.{zero-add, add-zero, add-suc, suc-add}
 use native.Mathlib.Omega.{arith}
 use lib.ListN.{getD}
 use Rattle.bytes.specs.Places.{numberAt}
-use Rattle.blowfish.specs.Cipher.{F, P, round, rounds, finish, cipher, blockOf, blockNumber}
+use Rattle.blowfish.specs.Cipher.{F, P, round, rounds, finish, cipher, blockOf, blockNumber, farEnd, encipherOf, decipherOf}
 use Rattle.blowfish.specs.declared.Block.{Block}
 use Rattle.blocks.specs.declared.Four.{Four}
 use Rattle.blocks.specs.Fours.{listFrom, eighteen, each, listed, fourAt, cipherBy}
@@ -59,5 +59,15 @@ module _ (f p q : ℕ → ℕ) (same : (i : ℕ) → i < 18 → p i ≡ q i) (b 
       ∙ ap₂ (λ (x y : ℕ). finish x y (rounds f q 16 b)) (same 16 (omega arith)) (same 17 (omega arith))
 
 -- the eighteen words as a list of their own are as good as P
-pub cipher-eighteen : (f p : ℕ → ℕ) (b : Block) → cipher f (P (eighteen p)) b ≡ cipher f p b
+cipher-eighteen : (f p : ℕ → ℕ) (b : Block) → cipher f (P (eighteen p)) b ≡ cipher f p b
 cipher-eighteen f p b = same-cipher f (P (eighteen p)) p (λ i h. list-from-at p 0 18 i h ∙ ap p (zero-add i)) b
+
+-- P from the near end enciphers
+pub near-enciphers : (w : List ℕ) → cipherBy w (eighteen (P w)) ≡ encipherOf w
+unfolding encipherOf
+near-enciphers w = λ i x. ap blockNumber (cipher-eighteen (F w) (P w) (blockOf x)) i
+
+-- and from the far end deciphers
+pub far-deciphers : (w : List ℕ) → cipherBy w (eighteen (farEnd w)) ≡ decipherOf w
+unfolding decipherOf
+far-deciphers w = λ i x. ap blockNumber (cipher-eighteen (F w) (farEnd w) (blockOf x)) i

@@ -1,74 +1,61 @@
+-- `blocks::cipher_blocks` meets its contract. The invariant: the first i blocks are worked, and those after them are as they were.
+use mathlib.Core.Path.{_≡_, refl, ap, sym, _∙_}
+use mathlib.Core.List.{List}
+use Prim.Native.Nat.{ℕ, _+_, _-_, _*_, _≤_}
+use native.Mathlib.Omega.{arith}
+use lib.ListN.{length, getD}
+use Rattle.blowfish.specs.Cipher.{F, P, cipher, blockNumber}
+use Rattle.blowfish.specs.declared.Block.{Block}
+use Rattle.blocks.specs.Blocks.{blocksOfBoth, blocksPut}
+use Rattle.blocks.specs.Fours.{listed, fourAt, cipherBy, allPut}
+use Rattle.blocks.proofs.EachBlocks.{both-room, worked, worked-none, worked-length, worked-more}
+use Rattle.blocks.proofs.FourRounds.{four-numbers}
+use borrow.Author.Needs.{needs}
 use Rattle.blocks.proofs.cipher_blocks.Statement.{statement}
 use Rattle.blocks.proofs.cipher_blocks.Tie as tie
-use Rattle.blocks.proofs.cipher_blocks.Reads as reads
-use Rattle.blocks.proofs.cipher_blocks.Lts as lts
-use Rattle.blocks.proofs.blocks_of_both.Reads as blocks-of-both-reads
-use Rattle.blocks.proofs.cipher_four.Reads as cipher-four-reads
-use Rattle.blocks.proofs.four_at.Reads as four-at-reads
-use Rattle.blocks.proofs.next_of.Reads as next-of-reads
-use Rattle.blocks.proofs.put_blocks.Reads as put-blocks-reads
 
 abbrev Inv-loop : tie.InvT-loop
-Inv-loop words p s out₀ n i₀ out i = ?
+Inv-loop words p s out₀ n i₀ out i =
+    (i ≤ n) × (8 * n ≤ length s) × (8 * n ≤ length out₀) × (length out ≡ length out₀) × (out ≡ worked (cipherBy words p) s out₀ i)
 
 abbrev μ-loop : tie.MeasureT-loop
-μ-loop words p s out₀ n i₀ out i = ?
+μ-loop words p s out₀ n i₀ out i = n - i
 
--- src/lib.rt:134:9
-blocks-of-both-requires : tie.Need-blocks-of-both-requires Inv-loop μ-loop
-blocks-of-both-requires c κs = ?
-
--- src/lib.rt:136:5
 loop-holds : tie.Need-loop-holds Inv-loop μ-loop
-loop-holds c = ?
+loop-holds c =
+    let args = c .before .before .before .before .args in
+    let room = rw (← c .blocks-of-both .ensures) at (both-room (args .s .now) (args .out .now)) in
+    (search needs, room .0, room .1, refl, worked-none (cipherBy (args .words .now) (args .p .now)) (args .s .now) (args .out .now))
 
--- src/lib.rt:137:53
-mul-four-at : tie.Need-mul-four-at Inv-loop μ-loop
-mul-four-at c = ?
-
--- src/lib.rt:137:42
-four-at-requires : tie.Need-four-at-requires Inv-loop μ-loop
-four-at-requires c κs = ?
-
--- src/lib.rt:137:20
-cipher-four-requires : tie.Need-cipher-four-requires Inv-loop μ-loop
-cipher-four-requires c κs = ?
-
--- src/lib.rt:138:25
-sub-next-of : tie.Need-sub-next-of Inv-loop μ-loop
-sub-next-of c = ?
-
--- src/lib.rt:138:13
-next-of-requires : tie.Need-next-of-requires Inv-loop μ-loop
-next-of-requires c κs = ?
-
--- src/lib.rt:139:25
-mul-put-blocks : tie.Need-mul-put-blocks Inv-loop μ-loop
-mul-put-blocks c = ?
-
--- src/lib.rt:139:9
-put-blocks-requires : tie.Need-put-blocks-requires Inv-loop μ-loop
-put-blocks-requires c κs = ?
-
--- src/lib.rt:140:9
-add-i : tie.Need-add-i Inv-loop μ-loop
-add-i c = ?
-
--- src/lib.rt:136:5
-loop-less : tie.Need-loop-less Inv-loop μ-loop
-loop-less c = ?
-
--- src/lib.rt:136:5
 loop-again : tie.Need-loop-again Inv-loop μ-loop
-loop-again c = ?
+loop-again c =
+    let counted = c .before .before .before .before .before in
+    let four = counted .before .cipher-four in
+    let blocks = counted .before .before .four-at in
+    let begin = counted .before .before .before .before in
+    let args = begin .before .before .before .before .before .args in
+    let w = args .words .now in
+    let p = args .p .now in
+    let s = args .s .now in
+    let i = begin .loop .i in
+    let k = counted .next-of .result in
+    let numbers = four .ensures ∙ ap (listed (λ (b : Block). blockNumber (cipher (F w) (P p) b))) (blocks .ensures) in
+    let all : c .before .before .put-blocks .last .0 ≡ worked (cipherBy w p) s (args .out .now) (i + k) =
+    c .before .before .put-blocks .ensures
+    ∙ ap (λ (xs : List ℕ). allPut xs (8 * i) k (begin .loop .out)) numbers
+    ∙ ap (allPut (listed (λ (b : Block). blockNumber (cipher (F w) (P p) b)) (fourAt s (8 * i))) (8 * i) k) (begin .loop .inv .4)
+    ∙ worked-more (cipherBy w p) s (args .out .now) i (listed (λ (b : Block). blockNumber (cipher (F w) (P p) b)) (fourAt s (8 * i))) (four-numbers w p s i) k (omega arith) in
+    (omega arith, search needs, search needs, ap length all ∙ worked-length (cipherBy w p) s (args .out .now) (i + k) (omega arith), all)
 
--- src/lib.rt:131:1
 same-length : tie.Need-same-length Inv-loop μ-loop
-same-length c = ?
+same-length c = search needs
 
--- src/lib.rt:131:1
 returns : tie.Need-returns Inv-loop μ-loop
-returns c = ?
+unfolding blocksPut
+returns c =
+    let args = c .before .before .before .before .before .before .args in
+    let end : c .before .loop .i ≡ blocksOfBoth (args .s .now) (args .out .now) = omega arith in
+    c .before .loop .inv .4 ∙ ap (worked (cipherBy (args .words .now) (args .p .now)) (args .s .now) (args .out .now)) end
 
 pub cipher-blocks-spec : {M : Type 1} → statement M
 cipher-blocks-spec =
@@ -76,17 +63,17 @@ cipher-blocks-spec =
     (tie.spec
     Inv-loop
     μ-loop
-    blocks-of-both-requires
+    (λ c κs. search needs)
     loop-holds
-    mul-four-at
-    four-at-requires
-    cipher-four-requires
-    sub-next-of
-    next-of-requires
-    mul-put-blocks
-    put-blocks-requires
-    add-i
-    loop-less
+    (λ c. search needs)
+    (λ c κs. search needs)
+    (λ c κs. search needs)
+    (λ c. search needs)
+    (λ c κs. search needs)
+    (λ c. search needs)
+    (λ c κs. search needs)
+    (λ c. search needs)
+    (λ c. search needs)
     loop-again
     same-length
     returns)

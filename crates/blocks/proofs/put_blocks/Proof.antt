@@ -28,9 +28,9 @@ loop-again c =
     let i = begin .loop .i in
     let put = c .before .before .put-block in
     let all : put .last .0 ≡ allPut (args .blocks .now) (args .at) (i + 1) (args .out .now) =
-        put .ensures
-        ∙ ap (blockPut (args .at + 8 * i) (getD (args .blocks .now) i 0)) (begin .loop .inv .2)
-        ∙ ap (λ (n : ℕ). allPut (args .blocks .now) (args .at) n (args .out .now)) (sym (add-one i)) in
+    put .ensures
+    ∙ ap (blockPut (args .at + 8 * i) (getD (args .blocks .now) i 0)) (begin .loop .inv .2)
+    ∙ ap (λ (n : ℕ). allPut (args .blocks .now) (args .at) n (args .out .now)) (sym (add-one i)) in
     (search needs, ap length all ∙ all-put-length (args .blocks .now) (args .at) (i + 1) (args .out .now) (omega arith), all)
 
 same-length : tie.Need-same-length Inv-loop μ-loop
