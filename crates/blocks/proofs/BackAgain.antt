@@ -11,7 +11,8 @@ use Rattle.bytes.specs.Numbers.{Below, bytesOf}
 use Rattle.bytes.specs.Places.{numberAt}
 use Rattle.bytes.proofs.Places.{bytes-at, number-at-below, number-written}
 use Rattle.blocks.specs.Blocks.{eachBlock}
-use Rattle.blocks.proofs.Cuts.{each-length, each-before}
+use Rattle.blocks.proofs.EachBlocks.{each-block-length}
+use Rattle.blocks.proofs.Cuts.{each-before}
 
 -- the number at the end of a list, where the eight bytes of y were put
 last-number : (a : List ℕ) (n y : ℕ) → length a ≡ n → y < 2 ^ 64 → numberAt 8 (a ++ bytesOf 8 y) n ≡ y
@@ -27,7 +28,7 @@ module _ (f g : ℕ → ℕ) (blocks : (x : ℕ) → x < 2 ^ 64 → f x < 2 ^ 64
   each-back (suc n) s below h =
       let x = numberAt 8 s (8 * n) in
       let small : x < 2 ^ 64 = number-at-below 8 s (8 * n) below in
-      let size = each-length f n s in
+      let size = each-block-length f n s in
       let end : 8 * n + 8 ≡ 8 * suc n = omega arith in
       ap₂ (λ (a : List ℕ) (y : ℕ). a ++ bytesOf 8 (g y))
       (each-before g n (eachBlock f n s) (bytesOf 8 (f x)) (omega (arith, size)) ∙ each-back n s below (omega arith))

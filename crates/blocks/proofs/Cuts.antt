@@ -9,7 +9,6 @@ use lib.ListN.{length, drop, take, length-append, length-drop}
 use lib.Seq.{drop-append-le, take-append-le, drop-drop}
 use Rattle.bytes.specs.Numbers.{bytesOf, bytesNumber}
 use Rattle.bytes.specs.Places.{numberAt}
-use Rattle.bytes.proofs.Digits.{digits-length}
 use Rattle.bytes.proofs.Places.{number-within}
 use Rattle.blocks.specs.Blocks.{eachBlock}
 
@@ -30,13 +29,6 @@ number-after n k s at h =
     ∙ sym (number-within n s (k + at) h)
 
 module _ (f : ℕ → ℕ) where
-  pub each-length : (n : ℕ) (s : List ℕ) → length (eachBlock f n s) ≡ 8 * n
-  unfolding eachBlock
-  each-length zero s = refl
-  each-length (suc n) s =
-      let x = bytesOf 8 (f (numberAt 8 s (8 * n))) in
-      length-append (eachBlock f n s) x ∙ ap₂ _+_ (each-length n s) (digits-length 256 8 (f (numberAt 8 s (8 * n)))) ∙ omega arith
-
   -- blocks that lie within s are not changed by what follows s
   pub each-before : (n : ℕ) (s t : List ℕ) → 8 * n ≤ length s → eachBlock f n (s ++ t) ≡ eachBlock f n s
   unfolding eachBlock

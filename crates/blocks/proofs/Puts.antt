@@ -11,7 +11,7 @@ use lib.ListN.{length, take, drop, length-append, length-drop}
 use lib.Seq.{take-all, take-at, drop-at, drop-length, drop-drop}
 use Rattle.bytes.proofs.Every.{either}
 use Rattle.blocks.specs.Blocks.{eachBlock, blocksOfBoth, blocksPut}
-use Rattle.blocks.proofs.Cuts.{each-length}
+use Rattle.blocks.proofs.EachBlocks.{each-block-length}
 
 -- where there is room for all whole blocks of s, all are put
 pub all-of-both : (s out : List ℕ) → 8 * (length s / 8) ≤ length out → blocksOfBoth s out ≡ length s / 8
@@ -33,7 +33,7 @@ module _ (f : ℕ → ℕ) (s : List ℕ) where
   unfolding blocksPut
   put-start out room =
       ap (λ (n : ℕ). eachBlock f n s ++ drop (8 * n) out) (all-of-both s out room)
-      ∙ ap (λ (n : ℕ). wholes ++ drop n out) (sym (each-length f (length s / 8) s))
+      ∙ ap (λ (n : ℕ). wholes ++ drop n out) (sym (each-block-length f (length s / 8) s))
 
   -- the part from a place on, lent to be written
   abbrev pub partFrom : ℕ → List ℕ → List ℕ

@@ -6,7 +6,8 @@ use native.Mathlib.Omega.{arith}
 use lib.Bits.{bitXor}
 use lib.Dec.{lit<}
 use Rattle.bytes.proofs.Xor.{xor-twice, xor-swap}
-use Rattle.blowfish.specs.Cipher.{F, P, farEnd, Block, block, round, rounds, finish, cipher}
+use Rattle.blowfish.specs.declared.Block.{Block}
+use Rattle.blowfish.specs.Cipher.{F, P, farEnd, block, round, rounds, finish, cipher}
 use Rattle.blowfish.specs.BackAgain.{DecipherAfterEncipher, EncipherAfterDecipher}
 
 -- exchanged, and the words j and k combined

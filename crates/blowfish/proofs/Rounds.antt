@@ -2,7 +2,8 @@
 -- Assumes nothing.
 use mathlib.Core.Path.{_≡_, refl, ap, _∙_}
 use Prim.Native.Nat.{ℕ, suc}
-use Rattle.blowfish.specs.Cipher.{Block, round, rounds, finish, cipher, blockNumber}
+use Rattle.blowfish.specs.declared.Block.{Block}
+use Rattle.blowfish.specs.Cipher.{round, rounds, finish, cipher, blockNumber}
 
 module _ (f p : ℕ → ℕ) (b : Block) where
   pub none : b ≡ rounds f p 0 b

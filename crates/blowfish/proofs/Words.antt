@@ -12,7 +12,8 @@ use lib.ListN.{length, set}
 use Rattle.bytes.specs.Numbers.{Below}
 use Rattle.bytes.proofs.Digits.{digits-below, set-below}
 use Rattle.pi.specs.Pi.{piFraction, startWords}
-use Rattle.blowfish.specs.Cipher.{F, P, farEnd, Block, block, rounds, cipher, blockOf, blockNumber, encipherOf, decipherOf}
+use Rattle.blowfish.specs.declared.Block.{Block}
+use Rattle.blowfish.specs.Cipher.{F, P, farEnd, block, rounds, cipher, blockOf, blockNumber, encipherOf, decipherOf}
 use Rattle.blowfish.specs.Schedule.{keyWord, keyed, Filling, filled, schedule}
 use Rattle.blowfish.specs.BackAgain.{NumberBack, NumberForth, BlocksStayBlocks, KeysHaveWords}
 use Rattle.blowfish.proofs.BackAgain.{decipher-after-encipher, encipher-after-decipher}

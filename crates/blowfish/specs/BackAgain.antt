@@ -3,7 +3,8 @@ use mathlib.Core.Path.{_≡_}
 use mathlib.Core.List.{List}
 use Prim.Native.Nat.{ℕ, _^_, _<_}
 use Rattle.bytes.specs.Numbers.{Below}
-use Rattle.blowfish.specs.Cipher.{F, P, farEnd, Block, cipher, encipherOf, decipherOf}
+use Rattle.blowfish.specs.declared.Block.{Block}
+use Rattle.blowfish.specs.Cipher.{F, P, farEnd, cipher, encipherOf, decipherOf}
 use Rattle.blowfish.specs.Schedule.{schedule}
 
 -- deciphering after enciphering, for every P and S, not only those that come from a key

@@ -3,6 +3,7 @@ use mathlib.Core.List.{List}
 use Prim.Native.Nat.{ℕ, zero, suc, _+_, _-_, _*_, _/_, _%_, _^_}
 use lib.Bits.{bitXor}
 use lib.ListN.{getD}
+use Rattle.blowfish.specs.declared.Block.{Block}
 
 -- P1 to P18: the word i, counted from 0
 abbrev pub P : List ℕ → ℕ → ℕ
@@ -29,12 +30,7 @@ unfoldable pub F : List ℕ → ℕ → ℕ
 F w x =
     (bitXor ((S1 w (x / 2 ^ 24 % 256) + S2 w (x / 2 ^ 16 % 256)) % 2 ^ 32) (S3 w (x / 2 ^ 8 % 256)) + S4 w (x % 256)) % 2 ^ 32
 
--- a block: the words L and R
-pub record Block : Type 0 where
-  pub left : ℕ
-  pub right : ℕ
-
--- the block of two words
+-- a block: the words L and R, in the fields left and right
 abbrev pub block : ℕ → ℕ → Block
 block l r = record { left = l; right = r }
 

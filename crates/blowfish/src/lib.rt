@@ -30,13 +30,13 @@ fn right(block: u64) -> u32
 }
 
 // A block: the words L and R.
-struct Block {
-    left: u32,
-    right: u32,
+pub struct Block {
+    pub left: u32,
+    pub right: u32,
 }
 
-fn parted(x: u64) -> Block
-    ensures { λ r. ⌜ block (r .left) (r .right) ≡ blockOf x ⌝ }
+pub fn parted(x: u64) -> Block
+    ensures { λ r. ⌜ r ≡ blockOf x ⌝ }
 {
     Block {
         left: left(x),
@@ -45,13 +45,13 @@ fn parted(x: u64) -> Block
 }
 
 fn joined(b: Block) -> u64
-    ensures { λ r. ⌜ r ≡ blockNumber (block (b .left) (b .right)) ⌝ }
+    ensures { λ r. ⌜ r ≡ blockNumber b ⌝ }
 {
     (b.left as u64) * 0x1_0000_0000 + (b.right as u64)
 }
 
 fn exchanged(left: u32, right: u32) -> Block
-    ensures { λ r. ⌜ block (r .left) (r .right) ≡ exchange (block left right) ⌝ }
+    ensures { λ r. ⌜ r ≡ exchange (block left right) ⌝ }
 {
     Block {
         left: right,
@@ -60,8 +60,8 @@ fn exchanged(left: u32, right: u32) -> Block
 }
 
 // One round: L xor p, then R xor F(L), then exchange L and R.
-fn round(words: &[u32; 1042], p: u32, mut b: Block) -> Block
-    ensures { λ r. ⌜ block (r .left) (r .right) ≡ round (F (now (words .entry))) p (block (b .left) (b .right)) ⌝ }
+pub fn round(words: &[u32; 1042], p: u32, mut b: Block) -> Block
+    ensures { λ r. ⌜ r ≡ round (F (now (words .entry))) p b ⌝ }
 {
     b.left = b.left ^ p;
     b.right = b.right ^ round_function(words, b.left);
@@ -69,8 +69,8 @@ fn round(words: &[u32; 1042], p: u32, mut b: Block) -> Block
 }
 
 // After sixteen rounds: undo the last exchange, then R xor P17, then L xor P18.
-fn finish(p17: u32, p18: u32, b: Block) -> u64
-    ensures { λ r. ⌜ r ≡ blockNumber (finish p17 p18 (block (b .left) (b .right))) ⌝ }
+pub fn finish(p17: u32, p18: u32, b: Block) -> u64
+    ensures { λ r. ⌜ r ≡ blockNumber (finish p17 p18 b) ⌝ }
 {
     let mut b = exchanged(b.left, b.right);
     b.right = b.right ^ p17;

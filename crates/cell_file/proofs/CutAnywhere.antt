@@ -13,7 +13,6 @@ use Rattle.bytes.specs.Numbers.{Below, digits, bytesOf, bytesNumber}
 use Rattle.bytes.proofs.Digits.{digits-length, digits-value, value-below, take-below, drop-below}
 use Rattle.bytes.proofs.Every.{and-first, and-second}
 use Rattle.blowfish.specs.Cipher.{encipherOf}
-use Rattle.blocks.proofs.Cuts.{each-length}
 use Rattle.forms.specs.Identifiers.{isCellKey}
 use Rattle.forms.specs.Order.{demand}
 use Rattle.forms.specs.Output.{Output, text, refusal}

@@ -8,7 +8,8 @@ use lib.ListN.{length, drop, replicate, length-append, length-drop, length-repli
 use lib.Seq.{drop-append-le, drop-drop}
 use Rattle.blowfish.specs.Cipher.{encipherOf}
 use Rattle.blocks.specs.Blocks.{eachBlock}
-use Rattle.blocks.proofs.Cuts.{each-length, each-before, each-cut}
+use Rattle.blocks.proofs.EachBlocks.{each-block-length}
+use Rattle.blocks.proofs.Cuts.{each-before, each-cut}
 use Rattle.cell_file.specs.Enciphering.{cellWords, enciphered, added, paddedFile, carriedOn}
 
 -- what is carried on is what is left of whole blocks
@@ -17,7 +18,7 @@ carried-length s = length-drop (8 * (length s / 8)) s ∙ omega arith
 
 pub enciphered-length : (key : ℕ) (s : List ℕ) → length (enciphered key s) ≡ 8 * (length s / 8)
 unfolding enciphered
-enciphered-length key s = each-length (encipherOf (cellWords key)) (length s / 8) s
+enciphered-length key s = each-block-length (encipherOf (cellWords key)) (length s / 8) s
 
 pub padded-length : (s : List ℕ) → length (paddedFile s) ≡ 8 * (length s / 8 + 1)
 unfolding paddedFile

@@ -1,6 +1,7 @@
 -- `blowfish::finish` meets its contract.
 use mathlib.Core.Path.{ap, _∙_}
-use Rattle.blowfish.specs.Cipher.{Block, leftXor, rightXor, blockNumber}
+use Rattle.blowfish.specs.declared.Block.{Block}
+use Rattle.blowfish.specs.Cipher.{leftXor, rightXor, blockNumber}
 use borrow.Author.Needs.{needs}
 use Rattle.blowfish.proofs.finish.Statement.{statement}
 use Rattle.blowfish.proofs.finish.Tie as tie
