@@ -15,11 +15,16 @@ use Rattle.blocks.proofs.EachBlocks.{each-block-length}
 use Rattle.blocks.proofs.Cuts.{each-before}
 
 -- the number at the end of a list, where the eight bytes of y were put
-last-number : (a : List ℕ) (n y : ℕ) → length a ≡ n → y < 2 ^ 64 → numberAt 8 (a ++ bytesOf 8 y) n ≡ y
+pub last-number : (a : List ℕ) (n y : ℕ) → length a ≡ n → y < 2 ^ 64 → numberAt 8 (a ++ bytesOf 8 y) n ≡ y
 last-number a n y size fits =
     ap₂ (λ (l : List ℕ) (k : ℕ). numberAt 8 (a ++ l) k) (sym (append-nil (bytesOf 8 y))) (sym size)
     ∙ number-written 8 y a []
     ∙ mod-eq-of-lt fits
+
+-- a block by itself
+pub one-block : (f : ℕ → ℕ) (y : ℕ) → y < 2 ^ 64 → eachBlock f 1 (bytesOf 8 y) ≡ bytesOf 8 (f y)
+unfolding eachBlock
+one-block f y fits = ap (λ (x : ℕ). bytesOf 8 (f x)) (last-number [] 0 y refl fits)
 
 module _ (f g : ℕ → ℕ) (blocks : (x : ℕ) → x < 2 ^ 64 → f x < 2 ^ 64) (undone : (x : ℕ) → x < 2 ^ 64 → g (f x) ≡ x) where
   pub each-back : (n : ℕ) (s : List ℕ) → Below 256 s → 8 * n ≤ length s → eachBlock g n (eachBlock f n s) ≡ take (8 * n) s

@@ -35,22 +35,18 @@ module _ (f : ℕ → ℕ) (s : List ℕ) where
       ap (λ (n : ℕ). eachBlock f n s ++ drop (8 * n) out) (all-of-both s out room)
       ∙ ap (λ (n : ℕ). wholes ++ drop n out) (sym (each-block-length f (length s / 8) s))
 
-  -- the part from a place on, lent to be written
-  abbrev pub partFrom : ℕ → List ℕ → List ℕ
-  partFrom at o = take (length o - at) (drop at o)
-
   -- blocks put into the part after a, where a stands at the start: they stand after a
-  pub put-next : (a out o : List ℕ) → o ≡ Start a out → length a + 8 * (length s / 8) ≤ length out
-      → take (length a) o ++ (blocksPut f s (partFrom (length a) o) ++ drop (length o - length a) (drop (length a) o)) ≡ Start (a ++ wholes) out
-  put-next a out o e room =
+  pub put-next : (a out o : List ℕ) (at : ℕ) → length a ≡ at → o ≡ Start a out → at + 8 * (length s / 8) ≤ length out
+      → take at o ++ (blocksPut f s (take (length o - at) (drop at o)) ++ drop (length o - at) (drop at o)) ≡ Start (a ++ wholes) out
+  put-next a out o at n e room =
       let q = drop (length a) out in
-      let after : drop (length a) o ≡ q = ap (drop (length a)) e ∙ drop-at a q (length a) refl in
-      let size : length o - length a ≡ length q = omega (arith, ap length e ∙ length-append a q) in
-      let lent : partFrom (length a) o ≡ q = ap₂ take size after ∙ take-all (length q) q (omega arith) in
+      let after : drop at o ≡ q = ap (drop at) e ∙ drop-at a q at n in
+      let size : length o - at ≡ length q = omega (arith, ap length e ∙ length-append a q) in
       let left : length q ≡ length out - length a = length-drop (length a) out in
-      ap₂ (λ (x y : List ℕ). x ++ (blocksPut f s (partFrom (length a) o) ++ y))
-      (ap (take (length a)) e ∙ take-at a q (length a) refl)
+      let lent : take (length o - at) (drop at o) ≡ q = ap₂ take size after ∙ take-all (length q) q (omega arith) in
+      ap₂ (λ (x y : List ℕ). x ++ (blocksPut f s (take (length o - at) (drop at o)) ++ y))
+      (ap (take at) e ∙ take-at a q at n)
       (ap₂ drop size after ∙ drop-length q)
-      ∙ ap (λ (l : List ℕ). a ++ l) (append-nil (blocksPut f s (partFrom (length a) o)) ∙ ap (blocksPut f s) lent ∙ put-start q (omega (arith, left)))
+      ∙ ap (λ (l : List ℕ). a ++ l) (append-nil (blocksPut f s (take (length o - at) (drop at o))) ∙ ap (blocksPut f s) lent ∙ put-start q (omega (arith, left)))
       ∙ sym (append-assoc a wholes (drop (length wholes) q))
       ∙ ap (λ (l : List ℕ). (a ++ wholes) ++ l) (drop-drop (length wholes) (length a) out ∙ ap (λ (n : ℕ). drop n out) (sym (length-append a wholes)))

@@ -111,12 +111,10 @@ unfolding endWritten
 end-done key x n good carried = rw (good, carried)
 
 -- nor a part
-part-done : (key x n : ℕ) (p : List ℕ) → isCellKey key ≡ true → isCarried n x ≡ true → length p ≤ most
-    → partWritten key x n p (8 * ((n + length p) / 8)) ≡ blocks (enciphered key (bytesOf n x ++ p)) (carriedOn (bytesOf n x ++ p))
+pub part-done : (key x n : ℕ) (p : List ℕ) (room : ℕ) → isCellKey key ≡ true → isCarried n x ≡ true → length p ≤ most → 8 * ((n + length p) / 8) ≤ room
+    → partWritten key x n p room ≡ blocks (enciphered key (bytesOf n x ++ p)) (carriedOn (bytesOf n x ++ p))
 unfolding partWritten
-part-done key x n p good carried fits =
-    let room = 8 * ((n + length p) / 8) in
-    rw (good, carried, le-leb (length p) most fits, le-leb room room (omega arith))
+part-done key x n p room good carried fits enough = rw (good, carried, le-leb (length p) most fits, le-leb (8 * ((n + length p) / 8)) room enough)
 
 -- what is carried on is a number of so many bytes, at most seven
 carried-good : (s : List ℕ) → Below 256 s → isCarried (length (carriedOn s)) (bytesNumber (carriedOn s)) ≡ true
@@ -139,7 +137,7 @@ done key x n (p ∷ ps) good carried below fits =
     (ap (λ (l : List ℕ). enciphered key s ++ enciphered key (paddedFile (l ++ joined ps))) again
     ∙ sym (padded-cut s (joined ps) key)
     ∙ ap (λ (l : List ℕ). enciphered key (paddedFile l)) (sym all))
-    (part (8 * ((n + length p) / 8)) (part-done key x n p good carried (fits .0)) rest)
+    (part (8 * ((n + length p) / 8)) (part-done key x n p (8 * ((n + length p) / 8)) good carried (fits .0) (omega arith)) rest)
 
 pub parts-done : PartsDone
 unfolding digits isCarried

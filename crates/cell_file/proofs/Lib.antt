@@ -4,3 +4,5 @@ pub mod Keys
 pub mod Gathering
 pub mod LastBlock
 pub mod Pieces
+pub mod Calls
+pub mod PartCalls

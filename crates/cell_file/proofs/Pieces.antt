@@ -9,8 +9,12 @@ use lib.Seq.{drop-length, drop-drop, length-take-le}
 use Rattle.bytes.specs.Numbers.{Below, bytesOf, bytesNumber}
 use Rattle.bytes.specs.Padding.{padded, padOf}
 use Rattle.bytes.proofs.Digits.{append-below, digits-below, digits-length, digits-value, value-digits-fit, value-append, replicate-below}
-use Rattle.cell_file.specs.Enciphering.{enciphered, added, paddedFile, carriedOn}
-use Rattle.cell_file.proofs.WholeBlocks.{enciphered-cut, carried-cut, padded-cut}
+use Rattle.bytes.proofs.Pads.{pad-below}
+use Rattle.blowfish.specs.Cipher.{encipherOf}
+use Rattle.blocks.specs.Blocks.{eachBlock}
+use Rattle.blocks.proofs.BackAgain.{one-block}
+use Rattle.cell_file.specs.Enciphering.{cellWords, enciphered, added, paddedFile, carriedOn}
+use Rattle.cell_file.proofs.WholeBlocks.{wholes-cut, padded-cut}
 
 -- fewer than eight bytes with their padding are the last block
 pub last-bytes : (s : List ℕ) → Below 256 s → length s < 8 → bytesOf 8 (padOf (length s) (bytesNumber s)) ≡ paddedFile s
@@ -40,15 +44,34 @@ first-bytes n x s fits below all =
     sym (value-append 256 (bytesOf n x) s ∙ ap (λ (y : ℕ). y * 256 ^ length s + bytesNumber s) (value-digits-fit 256 n x (omega arith) fits)) in
     ap (bytesOf 8) number ∙ rw size at (digits-value l (append-below (bytesOf n x) s (digits-below 256 n x (omega arith)) below))
 
--- after eight bytes what follows is enciphered by itself, and carries on what it would
+-- after eight bytes what follows is worked by itself
 module _ (first rest : List ℕ) (eight : length first ≡ 8) where
   nothing-left : carriedOn first ++ rest ≡ rest
   nothing-left =
       let all : 8 * (length first / 8) ≡ length first = omega arith in
       ap (λ (l : List ℕ). l ++ rest) (ap (λ (n : ℕ). drop n first) all ∙ drop-length first)
 
-  pub part-pieces : (key : ℕ) → enciphered key (first ++ rest) ≡ enciphered key first ++ enciphered key rest
-  part-pieces key = enciphered-cut first rest key ∙ ap (λ (l : List ℕ). enciphered key first ++ enciphered key l) nothing-left
+  pub part-pieces : (f : ℕ → ℕ) → eachBlock f (length (first ++ rest) / 8) (first ++ rest) ≡ eachBlock f 1 first ++ eachBlock f (length rest / 8) rest
+  part-pieces f =
+      let one : length first / 8 ≡ 1 = omega arith in
+      wholes-cut first rest f ∙ ap₂ (λ (n : ℕ) (l : List ℕ). eachBlock f n first ++ eachBlock f (length l / 8) l) one nothing-left
 
-  pub part-carried : carriedOn (first ++ rest) ≡ carriedOn rest
-  part-carried = carried-cut first rest ∙ ap carriedOn nothing-left
+-- a block of eight bytes is enciphered by itself
+pub block-enciphered : (key y : ℕ) → y < 2 ^ 64 → enciphered key (bytesOf 8 y) ≡ bytesOf 8 (encipherOf (cellWords key) y)
+unfolding enciphered
+block-enciphered key y fits =
+    let one : length (bytesOf 8 y) / 8 ≡ 1 = omega (arith, digits-length 256 8 y) in
+    ap (λ (n : ℕ). eachBlock (encipherOf (cellWords key)) n (bytesOf 8 y)) one ∙ one-block (encipherOf (cellWords key)) y fits
+
+-- fewer than eight bytes and their padding are enciphered as the last block
+pub rest-enciphered : (key : ℕ) (s : List ℕ) → Below 256 s → length s < 8
+    → enciphered key (paddedFile s) ≡ bytesOf 8 (encipherOf (cellWords key) (padOf (length s) (bytesNumber s)))
+rest-enciphered key s below few =
+    ap (enciphered key) (sym (last-bytes s below few)) ∙ block-enciphered key (padOf (length s) (bytesNumber s)) (pad-below (length s) (omega arith) (bytesNumber s))
+
+-- the same of carried bytes, which are given by their number
+pub last-enciphered : (key n x : ℕ) → n ≤ 7 → x < 256 ^ n → enciphered key (paddedFile (bytesOf n x)) ≡ bytesOf 8 (encipherOf (cellWords key) (padOf n x))
+last-enciphered key n x few fits =
+    let size = digits-length 256 n x in
+    rest-enciphered key (bytesOf n x) (digits-below 256 n x (omega arith)) (omega (arith, size))
+    ∙ ap₂ (λ (m y : ℕ). bytesOf 8 (encipherOf (cellWords key) (padOf m y))) size (value-digits-fit 256 n x (omega arith) fits)

@@ -40,22 +40,13 @@ module _ (s t : List ℕ) where
   after : drop (8 * (length s / 8)) (s ++ t) ≡ carriedOn s ++ t
   after = drop-append-le (8 * (length s / 8)) s t (omega arith)
 
-  pub enciphered-cut : (key : ℕ) → enciphered key (s ++ t) ≡ enciphered key s ++ enciphered key (carriedOn s ++ t)
-  unfolding enciphered
-  enciphered-cut key =
-      let f = encipherOf (cellWords key) in
+  pub wholes-cut : (f : ℕ → ℕ) → eachBlock f (length (s ++ t) / 8) (s ++ t) ≡ eachBlock f (length s / 8) s ++ eachBlock f (length (carriedOn s ++ t) / 8) (carriedOn s ++ t)
+  wholes-cut f =
       let m = length s / 8 in
       let k = length (carriedOn s ++ t) / 8 in
       ap (λ (n : ℕ). eachBlock f n (s ++ t)) wholes
       ∙ each-cut f m k (s ++ t) (omega (arith, wholes))
       ∙ ap₂ (λ (a b : List ℕ). a ++ eachBlock f k b) (each-before f m s t (omega arith)) after
-
-  pub carried-cut : carriedOn (s ++ t) ≡ carriedOn (carriedOn s ++ t)
-  carried-cut =
-      let m = length s / 8 in
-      let k = length (carriedOn s ++ t) / 8 in
-      let both : 8 * (length (s ++ t) / 8) ≡ 8 * m + 8 * k = omega (arith, wholes) in
-      ap (λ (n : ℕ). drop n (s ++ t)) both ∙ sym (drop-drop (8 * k) (8 * m) (s ++ t)) ∙ ap (drop (8 * k)) after
 
 module _ (s t : List ℕ) where
   -- the padding goes by what is left of whole blocks
@@ -63,11 +54,11 @@ module _ (s t : List ℕ) where
   same-added = let a = length-append s t in let b = length-append (carriedOn s) t in omega (arith, a, b, carried-length s)
 
   pub padded-cut : (key : ℕ) → enciphered key (paddedFile (s ++ t)) ≡ enciphered key s ++ enciphered key (paddedFile (carriedOn s ++ t))
-  unfolding paddedFile
+  unfolding enciphered paddedFile
   padded-cut key =
       let padding = replicate (added (s ++ t)) (added (s ++ t)) in
       let same : carriedOn s ++ (t ++ padding) ≡ (carriedOn s ++ t) ++ replicate (added (carriedOn s ++ t)) (added (carriedOn s ++ t))
       = sym (append-assoc (carriedOn s) t padding) ∙ ap (λ (n : ℕ). (carriedOn s ++ t) ++ replicate n n) same-added in
       ap (enciphered key) (append-assoc s t padding)
-      ∙ enciphered-cut s (t ++ padding) key
+      ∙ wholes-cut s (t ++ padding) (encipherOf (cellWords key))
       ∙ ap (λ (l : List ℕ). enciphered key s ++ enciphered key l) same

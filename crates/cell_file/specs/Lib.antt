@@ -1,2 +1,3 @@
 pub mod Enciphering
+pub mod Answers
 pub mod CutAnywhere
