@@ -28,6 +28,7 @@ unfolding feedAll
 one-in s c i j e h =
     ap (feedAll c) (drop-cons s i 0 h) ∙ ap (λ (n : ℕ). feedAll (feed c (getD s i 0)) (drop n s)) (sym (e ∙ add-one i))
 
+-- a word comes in at once
 pub word-in : (s : List ℕ) → Below 256 s → (c i : ℕ) → i + 4 ≤ length s
     → feedAll c (drop i s) ≡ feedAll (shifts 32 (bitXor c (wordAt s i))) (drop (i + 4) s)
 word-in s bytes c i h =
