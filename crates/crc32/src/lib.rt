@@ -1,6 +1,6 @@
 // CRC-32 of a slice, four bytes at a time by a table of hex digits. The table is small since a constant is copied at each call.
 ghost use mathlib.Core.Path.{_≡_};
-ghost use Prim.Native.Nat.{_+_, _*_, _/_, _%_, _^_, _≤_, _<_};
+ghost use Prim.Native.Nat.{_+_, _*_, _/_, _%_, _^_, _<_};
 ghost use lib.ListN.{length, drop};
 ghost use Rattle.crc32.specs.Crc32.{shifts, feed, feedAll, crc32Of};
 ghost use Rattle.crc32.specs.Table.{digitOut, IsTable};
