@@ -128,5 +128,9 @@ pub fn feed(state: u32, s: &[u8]) -> u32
 pub fn crc32(s: &[u8]) -> u32
     ensures { λ r. ⌜ r ≡ crc32Of (now (s .entry)) ⌝ }
 {
-    0xffffffff - feed(0xffffffff, s)
+    if s.len() < LONG {
+        crc32::crc32(s)
+    } else {
+        0xffffffff - long_in(0xffffffff, s)
+    }
 }
