@@ -1,6 +1,6 @@
 -- Sixteen bytes that come in one after the other come in as four words.
 -- Assumes nothing.
-use mathlib.Core.Path.{_≡_, refl, sym, ap, ap₂, _∙_}
+use mathlib.Core.Path.{_≡_, refl, sym, ap, _∙_}
 use mathlib.Core.List.{List, [], _∷_}
 use Prim.Native.Nat.{ℕ, _+_, _*_, _/_, _%_, _^_, _≤_}
 use native.Mathlib.Omega.{arith}
@@ -36,7 +36,7 @@ four-bytes x y z w =
     ∙ word-bytes (shifts 32 (bitXor (shifts 32 (bitXor (shifts 32 x) y)) z)) w []
 
 -- sixteen bytes of s come in at once
-pub sixteen-in : (s : List ℕ) → Below 256 s → (c i : ℕ) → i + 16 ≤ length s
+sixteen-in : (s : List ℕ) → Below 256 s → (c i : ℕ) → i + 16 ≤ length s
     → feedAll c (drop i s) ≡ feedAll (fourIn (bitXor c (wordAt s i)) (wordAt s (i + 4)) (wordAt s (i + 8)) (wordAt s (i + 12))) (drop (i + 16) s)
 unfolding fourIn
 sixteen-in s bytes c i h =
@@ -49,16 +49,19 @@ sixteen-in s bytes c i h =
     next v at end e within =
         word-in s bytes v at within ∙ ap (λ (n : ℕ). feedAll (shifts 32 (bitXor v (wordAt s at))) (drop n s)) (sym e)
 
--- sixteen bytes of s come in where four streams stand: each goes on by itself
-pub turn-in : (s : List ℕ) → Below 256 s → (a b c d i : ℕ) → i + 16 ≤ length s
-    → feedAll (fourIn a b c d) (drop i s)
-    ≡ feedAll
-    (fourIn
-    (bitXor (shifts 128 a) (wordAt s i))
-    (bitXor (shifts 128 b) (wordAt s (i + 4)))
-    (bitXor (shifts 128 c) (wordAt s (i + 8)))
-    (bitXor (shifts 128 d) (wordAt s (i + 12))))
-    (drop (i + 16) s)
-turn-in s bytes a b c d i h =
-    sixteen-in s bytes (fourIn a b c d) i h
-    ∙ ap (λ (x : ℕ). feedAll x (drop (i + 16) s)) (sym (turn a b c d (wordAt s i) (wordAt s (i + 4)) (wordAt s (i + 8)) (wordAt s (i + 12))))
+-- the first sixteen bytes of s come in after the state c, as the four words that were read
+pub first-in : (s : List ℕ) → Below 256 s → (c : ℕ) → 16 ≤ length s
+    → (x y z w : ℕ) → x ≡ wordAt s 0 → y ≡ wordAt s 4 → z ≡ wordAt s 8 → w ≡ wordAt s 12
+    → feedAll (fourIn (bitXor c x) y z w) (drop 16 s) ≡ feedAll c s
+first-in s bytes c h x y z w ex ey ez ew = cc (sixteen-in s bytes c 0 h)
+
+-- sixteen bytes of s come in where four streams stand, and each stream goes on by itself
+pub turn-in : (s : List ℕ) → Below 256 s → (a b c d i j : ℕ) → i + 16 ≤ length s → j ≡ i + 16
+    → (x y z w : ℕ)
+    → x ≡ bitXor (shifts 128 a) (wordAt s i)
+    → y ≡ bitXor (shifts 128 b) (wordAt s (i + 4))
+    → z ≡ bitXor (shifts 128 c) (wordAt s (i + 8))
+    → w ≡ bitXor (shifts 128 d) (wordAt s (i + 12))
+    → feedAll (fourIn x y z w) (drop j s) ≡ feedAll (fourIn a b c d) (drop i s)
+turn-in s bytes a b c d i j h e x y z w ex ey ez ew =
+    cc (sixteen-in s bytes (fourIn a b c d) i h, turn a b c d (wordAt s i) (wordAt s (i + 4)) (wordAt s (i + 8)) (wordAt s (i + 12)))

@@ -1,14 +1,11 @@
 -- `crc32_long::long_in` meets its contract: the whole sixteens, then the bytes after them.
-use mathlib.Core.Path.{ap, ap₂, sym, _∙_}
-use Prim.Native.Nat.{ℕ, _-_, _*_, _/_}
+use mathlib.Core.Path.{ap, _∙_}
+use Prim.Native.Nat.{_-_, _*_, _/_}
 use native.Mathlib.Omega.{arith}
-use lib.Bits.{bitXor}
 use lib.ListN.{length, drop, length-drop}
 use lib.Seq.{take-all}
 use Rattle.crc32.specs.Crc32.{feedAll}
-use Rattle.crc32.specs.Table.{wordAt}
-use Rattle.crc32_long.specs.Streams.{fourIn}
-use Rattle.crc32_long.proofs.Sixteens.{sixteen-in}
+use Rattle.crc32_long.proofs.Sixteens.{first-in}
 use borrow.Author.Needs.{needs}
 use Rattle.crc32_long.proofs.long_in.Statement.{statement}
 use Rattle.crc32_long.proofs.long_in.Tie as tie
@@ -60,9 +57,9 @@ returns c =
     c .feed .ensures
     ∙ ap (feedAll (in-sixteens .sixteens-in .result)) (take-all (length s - whole) (drop whole s) (simp length-drop (omega arith)))
     ∙ in-sixteens .sixteens-in .ensures
-    ∙ ap₂ (λ (m n : ℕ). feedAll (fourIn (bitXor (args .state) m) n (z .word3 .result) (w .word4 .result)) (drop 16 s)) (x .word .ensures) (y .word2 .ensures)
-    ∙ ap₂ (λ (m n : ℕ). feedAll (fourIn (bitXor (args .state) (wordAt s 0)) (wordAt s 4) m n) (drop 16 s)) (z .word3 .ensures) (w .word4 .ensures)
-    ∙ sym (sixteen-in s (λ k. omega (arith, known .shared-slice-known .given k)) (args .state) 0 (omega arith))
+    ∙ first-in s (λ k. omega (arith, known .shared-slice-known .given k)) (args .state) (omega arith)
+    (x .word .result) (y .word2 .result) (z .word3 .result) (w .word4 .result)
+    (x .word .ensures) (y .word2 .ensures) (z .word3 .ensures) (w .word4 .ensures)
 
 pub long-in-spec : {M : Type 1} → statement M
 long-in-spec =

@@ -1,11 +1,9 @@
 -- `crc32_long::sixteens_in` meets its contract. The invariant: what remains after i sixteens, fed where the four streams stand, gives what the whole gives.
-use mathlib.Core.Path.{_≡_, ap, ap₂, sym, _∙_}
+use mathlib.Core.Path.{_≡_, ap, _∙_}
 use Prim.Native.Nat.{ℕ, _+_, _-_, _*_, _/_, _≤_}
 use native.Mathlib.Omega.{arith}
-use lib.Bits.{bitXor}
 use lib.ListN.{length, drop}
-use Rattle.crc32.specs.Crc32.{shifts, feedAll}
-use Rattle.crc32.specs.Table.{wordAt}
+use Rattle.crc32.specs.Crc32.{feedAll}
 use Rattle.crc32_long.specs.Streams.{fourIn}
 use Rattle.crc32_long.proofs.Sixteens.{turn-in}
 use borrow.Author.Needs.{needs}
@@ -63,19 +61,17 @@ loop-less c = search needs
 
 loop-again : tie.Need-loop-again Inv-loop μ-loop
 loop-again c =
-    let turn = c .before .before .before .before in
-    let known = turn .before .before in
+    let first = c .before .before .before in
+    let known = first .before .before .before in
     let s = known .before .args .s .now in
-    let now = turn .before .loop in
-    let at = 16 * now .i in
-    let e : 16 * (now .i + 1) ≡ at + 16 = omega arith in (
+    let now = first .before .before .loop in
+    let e : 16 * (now .i + 1) ≡ 16 * now .i + 16 = omega arith in (
       search needs,
       search needs,
       search needs,
-      ap (λ (n : ℕ). feedAll (fourIn (c .before .before .before .onward .result) (c .before .before .onward2 .result) (c .before .onward3 .result) (c .onward4 .result)) (drop n s)) e
-          ∙ ap₂ (λ (x y : ℕ). feedAll (fourIn x y (c .before .onward3 .result) (c .onward4 .result)) (drop (at + 16) s)) (c .before .before .before .onward .ensures) (c .before .before .onward2 .ensures)
-          ∙ ap₂ (λ (z w : ℕ). feedAll (fourIn (bitXor (shifts 128 (now .a)) (wordAt s at)) (bitXor (shifts 128 (now .b)) (wordAt s (at + 4))) z w) (drop (at + 16) s)) (c .before .onward3 .ensures) (c .onward4 .ensures)
-          ∙ sym (turn-in s (λ k. omega (arith, known .shared-slice-known .given k)) (now .a) (now .b) (now .c) (now .d) at (omega arith))
+      turn-in s (λ k. omega (arith, known .shared-slice-known .given k)) (now .a) (now .b) (now .c) (now .d) (16 * now .i) (16 * (now .i + 1)) (omega arith) e
+          (first .onward .result) (c .before .before .onward2 .result) (c .before .onward3 .result) (c .onward4 .result)
+          (first .onward .ensures) (c .before .before .onward2 .ensures) (c .before .onward3 .ensures) (c .onward4 .ensures)
           ∙ now .inv .3,
     )
 
