@@ -13,7 +13,8 @@ use Rattle.crc32.specs.Crc32.{shifts, feed, feedAll}
 use Rattle.crc32.specs.Table.{wordAt}
 use Rattle.crc32.proofs.Shifts.{feed-above}
 
-four : (c a b d e : ℕ) → a < 256 → b < 256 → d < 256
+-- four bytes come in as their word
+pub four : (c a b d e : ℕ) → a < 256 → b < 256 → d < 256
     → feed (feed (feed (feed c a) b) d) e ≡ shifts 32 (bitXor c (a + b * 2 ^ 8 + (d + e * 2 ^ 8) * 2 ^ 16))
 unfolding feed
 four c a b d e ha hb hd =
@@ -28,6 +29,7 @@ unfolding feedAll
 one-in s c i j e h =
     ap (feedAll c) (drop-cons s i 0 h) ∙ ap (λ (n : ℕ). feedAll (feed c (getD s i 0)) (drop n s)) (sym (e ∙ add-one i))
 
+-- a word comes in at once
 pub word-in : (s : List ℕ) → Below 256 s → (c i : ℕ) → i + 4 ≤ length s
     → feedAll c (drop i s) ≡ feedAll (shifts 32 (bitXor c (wordAt s i))) (drop (i + 4) s)
 word-in s bytes c i h =

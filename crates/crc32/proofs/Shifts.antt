@@ -23,7 +23,8 @@ shift-xor a b =
     ∙ ap (bitXor (bitXor (a / 2) (b / 2))) (fed-back (a % 2) (b % 2) (low-bit a) (low-bit b))
     ∙ xor-pairs (a / 2) (b / 2) (a % 2 * polynomial) (b % 2 * polynomial)
 
-shifts-xor : (n a b : ℕ) → shifts n (bitXor a b) ≡ bitXor (shifts n a) (shifts n b)
+-- n bits of an exclusive or go out as those of each by itself
+pub shifts-xor : (n a b : ℕ) → shifts n (bitXor a b) ≡ bitXor (shifts n a) (shifts n b)
 unfolding shifts
 shifts-xor zero a b = refl
 shifts-xor (suc n) a b = ap (shifts n) (shift-xor a b) ∙ shifts-xor n (shift a) (shift b)
@@ -34,7 +35,8 @@ unfolding shifts shift
 shifts-high zero h = rw (pow-zero, mul-one)
 shifts-high (suc n) h = rw (shifted-half, shifted-even, xor-zero-r) (shifts-high n h)
 
-shifts-more : (n m x : ℕ) → shifts m (shifts n x) ≡ shifts (n + m) x
+-- n bits and then m more
+pub shifts-more : (n m x : ℕ) → shifts m (shifts n x) ≡ shifts (n + m) x
 unfolding shifts
 shifts-more zero m x = ap (λ (k : ℕ). shifts k x) (sym (zero-add m))
 shifts-more (suc n) m x = shifts-more n m (shift x) ∙ ap (λ (k : ℕ). shifts k x) (sym (suc-add n m))

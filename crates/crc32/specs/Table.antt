@@ -1,4 +1,4 @@
--- What the code looks up, and the word that it feeds at once: for contracts inside the crate alone.
+-- What the code looks up, and the word that it feeds at once: for inner contracts alone, here and in crc32_long.
 use mathlib.Core.Path.{_≡_}
 use mathlib.Core.List.{List}
 use Prim.Native.Nat.{ℕ, _+_, _*_, _^_, _<_}

@@ -1,9 +1,9 @@
 // CRC-32 of a slice, four bytes at a time by a table of hex digits. The table is small since a constant is copied at each call.
 ghost use mathlib.Core.Path.{_≡_};
-ghost use Prim.Native.Nat.{_+_, _*_, _/_, _%_, _^_, _≤_, _<_};
+ghost use Prim.Native.Nat.{_+_, _*_, _/_, _%_, _^_, _<_};
 ghost use lib.ListN.{length, drop};
-ghost use Rattle.crc32.specs.Crc32.{allOnes, shifts, feed, feedAll, crc32Of};
-ghost use Rattle.crc32.specs.Table.{digitOut, IsTable, wordAt};
+ghost use Rattle.crc32.specs.Crc32.{shifts, feed, feedAll, crc32Of};
+ghost use Rattle.crc32.specs.Table.{digitOut, IsTable};
 
 mod table;
 
@@ -13,12 +13,11 @@ fn pair(low: u8, high: u8) -> u16
     (low as u16) + (high as u16) * 256
 }
 
-// The four bytes from a place on; of two pairs the compiler makes one load.
-fn word(s: &[u8], at: usize) -> u32
-    requires { ⌜ at + 4 ≤ length (now s) ⌝ }
-    ensures { λ r. ⌜ r ≡ wordAt (now (s .entry)) at ⌝ }
+// Four bytes as a word, the low byte first; of two pairs that stand side by side the compiler makes one load.
+pub fn word_of(a: u8, b: u8, c: u8, d: u8) -> u32
+    ensures { λ r. ⌜ r ≡ a + b * 2 ^ 8 + (c + d * 2 ^ 8) * 2 ^ 16 ⌝ }
 {
-    (pair(s[at], s[at + 1]) as u32) + (pair(s[at + 2], s[at + 3]) as u32) * 0x1_0000
+    (pair(a, b) as u32) + (pair(c, d) as u32) * 0x1_0000
 }
 
 // The low hex digit of x goes out from a place of a word.
@@ -52,15 +51,16 @@ fn byte_in(t: &[u32; 128], c: u32, b: u8) -> u32
 }
 
 // The state once all whole words have come in.
-fn words_in(t: &[u32; 128], s: &[u8]) -> u32
+fn words_in(t: &[u32; 128], state: u32, s: &[u8]) -> u32
     requires { ⌜ IsTable (now t) ⌝ }
-    ensures { λ r. ⌜ feedAll r (drop (4 * (length (now (s .entry)) / 4)) (now (s .entry))) ≡ feedAll allOnes (now (s .entry)) ⌝ }
+    ensures { λ r. ⌜ feedAll r (drop (4 * (length (now (s .entry)) / 4)) (now (s .entry))) ≡ feedAll state (now (s .entry)) ⌝ }
 {
     let n = s.len() / 4;
-    let mut c: u32 = 0xffffffff;
+    let mut c = state;
     let mut i: usize = 0;
     while i < n {
-        c = word_out(t, c ^ word(s, 4 * i));
+        let at = 4 * i;
+        c = word_out(t, c ^ word_of(s[at], s[at + 1], s[at + 2], s[at + 3]));
         i += 1;
     }
     c
@@ -79,12 +79,19 @@ fn bytes_in(t: &[u32; 128], state: u32, s: &[u8]) -> u32
     c
 }
 
+// The state after all bytes have come in.
+pub fn feed(state: u32, s: &[u8]) -> u32
+    ensures { λ r. ⌜ r ≡ feedAll state (now (s .entry)) ⌝ }
+{
+    let t = table::table();
+    let c = words_in(&t, state, s);
+    let whole = 4 * (s.len() / 4);
+    bytes_in(&t, c, &s[whole..])
+}
+
 // CRC-32 of the bytes.
 pub fn crc32(s: &[u8]) -> u32
     ensures { λ r. ⌜ r ≡ crc32Of (now (s .entry)) ⌝ }
 {
-    let t = table::table();
-    let c = words_in(&t, s);
-    let whole = 4 * (s.len() / 4);
-    0xffffffff - bytes_in(&t, c, &s[whole..])
+    0xffffffff - feed(0xffffffff, s)
 }
