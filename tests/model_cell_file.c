@@ -19,7 +19,7 @@ static uint8_t *room_for(size_t length)
     return room;
 }
 
-/* The five bytes of a cell key, if it is one. */
+/* A number that five bytes hold. */
 static bool is_cell_key(uint64_t key)
 {
     return key < (uint64_t)1 << 40;
