@@ -1,6 +1,7 @@
-# make run      prove the look-through and the library, look through the sample PERMIT.TXT, show the desk at work and which charts of a ship are behind
+# make run      prove the look-through and the library, look through the sample PERMIT.TXT, show the desk at work, which charts of a ship are behind,
+#               and a cell file enciphered and opened
 # make test     the whole gate: every proof, then the comparisons with programs of others
-# make bench    our cipher, checksum, permits, book, product list and look-through beside OpenSSL's, zlib's and plain C
+# make bench    our cipher, checksum, permits, book, product list, cell files and look-through beside OpenSSL's, Botan's, zlib's and plain C
 # make lib      the library for C: target/staticlib/liblambukir.a, target/sharedlib/liblambukir.so and target/include/lambukir.h
 # make install  what make lib built, with a pkg-config file and the samples, below PREFIX, or below DESTDIR and PREFIX; it proves nothing
 # make help     this list
@@ -31,13 +32,15 @@ files_of = crates.txt $(foreach crate,$(shell tests/crates $(1)),$(shell find cr
 help:
 	@sed -n '/^$$/q; s/^# //p' Makefile
 
-run: target/compiler proved target/sample/desk target/sample/standing
+run: target/compiler proved target/sample/desk target/sample/standing target/sample/cell_file
 	@printf '\nThe look-through of sample/PERMIT.TXT:\n\n'
 	@sample/look_through
 	@printf '\nThe desk at work:\n\n'
 	@tests/x86-64 target/sample/desk
 	@printf '\nThe charts of a ship, held against sample/PRODUCTS.TXT:\n\n'
 	@tests/x86-64 target/sample/standing sample/PRODUCTS.TXT
+	@printf '\nA cell file enciphered and opened:\n\n'
+	@tests/x86-64 target/sample/cell_file
 
 test:
 	@tests/run
@@ -56,7 +59,7 @@ install: built
 	ln -sfn $(notdir $(SHARED)) '$(PLACE)/lib/$(SONAME)'
 	ln -sfn $(SONAME) '$(PLACE)/lib/liblambukir.so'
 	printf '%s\n' 'prefix=$(PREFIX)' 'includedir=$${prefix}/include' 'libdir=$${prefix}/lib' '' \
-		'Name: lambukir' 'Description: S-63 user permits, cell permits, PERMIT.TXT files, product lists and the book of cell keys' 'Version: $(VERSION)' \
+		'Name: lambukir' 'Description: S-63 user permits, cell permits, PERMIT.TXT files, product lists, cell files and the book of cell keys' 'Version: $(VERSION)' \
 		'Cflags: -I$${includedir}' 'Libs: -L$${libdir} -llambukir' | install -m 644 /dev/stdin '$(PLACE)/lib/pkgconfig/lambukir.pc'
 	install -m 644 README.md LICENSE '$(PLACE)/share/doc/lambukir'
 	install -m 644 $(wildcard sample/*.c sample/*.py) sample/PERMIT.TXT sample/PRODUCTS.TXT '$(PLACE)/share/doc/lambukir/sample'
