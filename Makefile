@@ -14,6 +14,8 @@ SONAME = liblambukir.so.$(basename $(VERSION))
 LIBRARY = target/staticlib/liblambukir.a
 SHARED = target/sharedlib/liblambukir.so.$(VERSION)
 PROBE = target/staticlib/libprobe.a
+# where Debian's package has the headers of Botan
+BOTAN = -I/usr/include/botan-2
 HEADER = target/include/lambukir.h
 PREFIX = /usr/local
 PLACE = $(DESTDIR)$(PREFIX)
@@ -114,6 +116,12 @@ target/packages: tests/packages | target/compiler
 	@mkdir -p $(@D)
 	@touch $@
 
+# and what the benchmark alone needs
+target/bench-packages: tests/packages | target/packages
+	@tests/packages bench
+	@mkdir -p $(@D)
+	@touch $@
+
 target/sample/%: sample/%.c $(LIBRARY) $(HEADER) | target/compiler
 	@mkdir -p $(@D)
 	@$(CC) $(CFLAGS) -Itarget/include -o $@ $< $(LIBRARY)
@@ -127,9 +135,9 @@ target/tests/%.o: tests/%.c $(wildcard tests/*.h) $(HEADER) | target/packages
 target/tests/%: tests/%.c $(wildcard tests/*.h) $(MODEL) $(LIBRARY) $(PROBE)
 	$(CC) $(CFLAGS) -Itarget/include -o $@ $< $(MODEL) $(LIBRARY) $(PROBE) -lcrypto -lz
 
-target/bench/bench: bench/bench.c bench/book.c bench/products.c $(wildcard bench/*.h tests/*.h) $(MODEL) $(LIBRARY) $(PROBE)
+target/bench/bench: bench/bench.c bench/book.c bench/products.c $(wildcard bench/*.h tests/*.h) $(MODEL) $(LIBRARY) $(PROBE) | target/bench-packages
 	mkdir -p $(@D)
-	$(CC) $(CFLAGS) -Itarget/include -Itests -o $@ $< bench/book.c bench/products.c $(MODEL) $(LIBRARY) $(PROBE) -lcrypto -lz
+	$(CC) $(CFLAGS) -Itarget/include -Itests $(BOTAN) -o $@ $< bench/book.c bench/products.c $(MODEL) $(LIBRARY) $(PROBE) -lcrypto -lz -lbotan-2
 
 # with OpenSSL and zlib in it, so that both programs load the C library and nothing else
 target/bench/look_through: bench/look_through.c $(wildcard tests/*.h) $(MODEL) $(HEADER)
