@@ -547,16 +547,18 @@ lambukir_product_standing(const uint8_t *list, size_t list_length,
    CRC-32: opening asks for the CRC-32 of the bytes that were enciphered, of the
    file without its padding. It tells the right key, and a file that went bad
    on the way; it does not tell one that somebody changed on purpose who has the
-   key. This is our own rule. S-63 has no such number, and that of the catalogue
-   is taken before the file is packed. So take it when the file is enciphered
-   (lambukir_crc32), and keep it with what comes out, for whoever is to open it.
+   key. This is our own rule: S-63 tells nobody this number, and the one in the
+   catalogue of an exchange set is taken before the file is packed. So take it
+   when the file is enciphered (lambukir_crc32), and keep it with what comes
+   out, for whoever is to open that.
 
    A file or a part of one has at most LAMBUKIR_CELL_FILE_SIZE bytes, 16 MiB,
    and what is opened 8 bytes more; an output may have any length. What parts
    add up to is not bounded, but beyond 16 MiB lambukir_open_cell_file will not
    take it. The bytes of out after those that were written stay as they were,
-   and file and out do not overlap. Beside the key set-ups that stand with each
-   call the time goes by the length alone. */
+   and file and out do not overlap. A call takes at most 12 KiB of stack, however
+   long the file, and beside its key set-ups its time goes by the length; make
+   bench measures 64 KiB and 16 MiB. */
 
 /* Enciphers a whole file to the start of out, and answers how many bytes that
    are, 8 * (file_length / 8 + 1). One key set-up; none after a refusal.
@@ -568,9 +570,10 @@ lambukir_encipher_file(uint64_t key, const uint8_t *file, size_t file_length,
                        uint8_t *out, size_t out_length);
 
 /* length bytes were written at the start of out; carried_length bytes, 0 to 7,
-   are left of what was given. carried is their number, the first byte at its
-   top: 3 bytes 01 02 03 are 0x010203, and no bytes are 0. After a refusal both
-   are 0, and the caller keeps the carried bytes that it gave. */
+   are left of what was given, not yet enciphered. carried is their number, the
+   first byte at its top: 3 bytes 01 02 03 are 0x010203, and no bytes are 0.
+   After a refusal both are 0: whoever wants to try again, with a longer out,
+   still needs what it gave. */
 typedef struct {
   uint64_t length;
   uint64_t carried;
