@@ -556,9 +556,9 @@ lambukir_product_standing(const uint8_t *list, size_t list_length,
    and what is opened 8 bytes more; an output may have any length. What parts
    add up to is not bounded, but beyond 16 MiB lambukir_open_cell_file will not
    take it. The bytes of out after those that were written stay as they were,
-   and file and out do not overlap. A call takes at most 12 KiB of stack, however
-   long the file, and beside its key set-ups its time goes by the length; make
-   bench measures 64 KiB and 16 MiB. */
+   and file and out do not overlap. A call takes at most 12 KiB of stack for a
+   file of any length, and beside its key set-ups its time goes by the length:
+   make bench measures 64 KiB and 16 MiB. */
 
 /* Enciphers a whole file to the start of out, and answers how many bytes that
    are, 8 * (file_length / 8 + 1). One key set-up; none after a refusal.
