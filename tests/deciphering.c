@@ -81,7 +81,7 @@ static void worked(void)
     expect_opened(compare_opening(s63, 8, 0x3938373635, one, 0xB54446A1, 8), 1, (const uint8_t *)"12348", 5);
     expect_opened(compare_opening(s63, 8, two, 0x3938373635, 0xB54446A1, 8), 2, (const uint8_t *)"12348", 5);
     ABOUT("an empty file");
-    expect_opened(compare_opening(none, 8, one, two, 0, 8), 1, NULL, 0);
+    expect_opened(compare_opening(none, 8, one, two, 0, 8), 1, none, 0);
     expect_number(compare_opening(none, 8, one, two, 1, 8), 16);
     expect_number(compare_opening(none, 7, one, two, 0, 8), 12);
     expect_number(compare_opening(none, 0, one, two, 0, 8), 12);
@@ -116,6 +116,23 @@ static void lengths(void)
             expect_number(compare_opening(file, file_length, key, key, file_crc, length), 108);
             expect_number(compare_opening(file, file_length, key, key, file_crc, random_below(file_length)), 108);
         }
+}
+
+/* Every number of blocks up to 2,500, since the library may take many at a time. */
+static void longer(void)
+{
+    for (size_t count = 1; count <= 2500; count++) {
+        uint64_t key = some_key();
+        const uint8_t *bytes = some_bytes();
+        size_t length = count * BLOCK - 1 - random_below(BLOCK);
+        encipher(key, bytes, length);
+        ABOUT("%zu bytes, %zu blocks", length, count);
+        expect_opened(compare_opening(file, file_length, key, some_key(), file_crc, file_length), 1, bytes, length);
+        if (count % 16 == 0)
+            expect_opened(compare_opening(file, file_length, wrong_key(key, 0), key, file_crc, file_length), 2, bytes, length);
+        if (count % 64 == 0)
+            expect_opened(compare_opening(file, file_length, wrong_key(key, 1), key, file_crc, file_length), 2, bytes, length);
+    }
 }
 
 /* What is enciphered whole or by parts is opened again, by the library alone. */
@@ -524,6 +541,7 @@ int main(int argc, char **argv)
     static const subject subjects[] = {
         {"deciphering-worked", worked},
         {"deciphering-lengths", lengths},
+        {"deciphering-longer", longer},
         {"deciphering-round-trips", round_trips},
         {"deciphering-keys", keys},
         {"deciphering-both-keys", both_keys},

@@ -131,6 +131,19 @@ static void parts(void)
         }
 }
 
+/* Files of up to 2,500 blocks, whole and cut once, since the library may take many blocks at a time. */
+static void longer(void)
+{
+    for (size_t length = SHORT; length < 2500 * BLOCK; length += 1 + random_below(3 * BLOCK)) {
+        uint64_t key = some_key();
+        const uint8_t *file = some_bytes();
+        size_t cut = random_below(length + 1);
+        compare_whole(key, file, length);
+        ABOUT("%zu bytes cut at %zu", length, cut);
+        compare_cuts(key, file, length, &cut, 1);
+    }
+}
+
 /* Short files cut once and twice, at every place. */
 static void cuts(void)
 {
@@ -301,6 +314,7 @@ int main(int argc, char **argv)
         {"enciphering-lengths", lengths},
         {"enciphering-parts", parts},
         {"enciphering-cuts", cuts},
+        {"enciphering-longer", longer},
         {"enciphering-carried", carried},
         {"enciphering-outputs", outputs},
         {"enciphering-refusals", refusals},
