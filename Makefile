@@ -1,6 +1,7 @@
-# make run      prove the look-through and the library, look through the sample PERMIT.TXT, show the desk at work and which charts of a ship are behind
+# make run      prove the look-through and the library, look through the sample PERMIT.TXT, show the desk at work, which charts of a ship are behind,
+#               and a cell file enciphered and opened
 # make test     the whole gate: every proof, then the comparisons with programs of others
-# make bench    our cipher, checksum, permits, book, product list and look-through beside OpenSSL's, zlib's and plain C
+# make bench    our cipher, checksum, permits, book, product list, cell files and look-through beside OpenSSL's, Botan's, zlib's and plain C
 # make lib      the library for C: target/staticlib/liblambukir.a, target/sharedlib/liblambukir.so and target/include/lambukir.h
 # make install  what make lib built, with a pkg-config file and the samples, below PREFIX, or below DESTDIR and PREFIX; it proves nothing
 # make help     this list
@@ -13,6 +14,8 @@ SONAME = liblambukir.so.$(basename $(VERSION))
 LIBRARY = target/staticlib/liblambukir.a
 SHARED = target/sharedlib/liblambukir.so.$(VERSION)
 PROBE = target/staticlib/libprobe.a
+# where Debian's package has the headers of Botan
+BOTAN = -I/usr/include/botan-2
 HEADER = target/include/lambukir.h
 PREFIX = /usr/local
 PLACE = $(DESTDIR)$(PREFIX)
@@ -21,7 +24,7 @@ PLACE = $(DESTDIR)$(PREFIX)
 export RT_JOBS ?= $(shell n=$$(nproc); echo $$((n < 4 ? n + 1 : 5)))
 
 COMPARISONS = $(basename $(notdir $(shell grep -l run_subjects tests/*.c)))
-MODEL = $(addprefix target/tests/,model.o model_book.o model_file.o model_products.o)
+MODEL = $(addprefix target/tests/,model.o model_book.o model_cell_file.o model_file.o model_products.o)
 
 # what a crate is made of: its own files and those of all that it uses, and their folders, which tell of a file taken away
 files_of = crates.txt $(foreach crate,$(shell tests/crates $(1)),$(shell find crates/$(crate) -name must-fail -prune -o -print))
@@ -31,13 +34,15 @@ files_of = crates.txt $(foreach crate,$(shell tests/crates $(1)),$(shell find cr
 help:
 	@sed -n '/^$$/q; s/^# //p' Makefile
 
-run: target/compiler proved target/sample/desk target/sample/standing
+run: target/compiler proved target/sample/desk target/sample/standing target/sample/cell_file
 	@printf '\nThe look-through of sample/PERMIT.TXT:\n\n'
 	@sample/look_through
 	@printf '\nThe desk at work:\n\n'
 	@tests/x86-64 target/sample/desk
 	@printf '\nThe charts of a ship, held against sample/PRODUCTS.TXT:\n\n'
 	@tests/x86-64 target/sample/standing sample/PRODUCTS.TXT
+	@printf '\nA cell file enciphered and opened:\n\n'
+	@tests/x86-64 target/sample/cell_file
 
 test:
 	@tests/run
@@ -56,7 +61,7 @@ install: built
 	ln -sfn $(notdir $(SHARED)) '$(PLACE)/lib/$(SONAME)'
 	ln -sfn $(SONAME) '$(PLACE)/lib/liblambukir.so'
 	printf '%s\n' 'prefix=$(PREFIX)' 'includedir=$${prefix}/include' 'libdir=$${prefix}/lib' '' \
-		'Name: lambukir' 'Description: S-63 user permits, cell permits, PERMIT.TXT files, product lists and the book of cell keys' 'Version: $(VERSION)' \
+		'Name: lambukir' 'Description: S-63 user permits, cell permits, PERMIT.TXT files, product lists, cell files and the book of cell keys' 'Version: $(VERSION)' \
 		'Cflags: -I$${includedir}' 'Libs: -L$${libdir} -llambukir' | install -m 644 /dev/stdin '$(PLACE)/lib/pkgconfig/lambukir.pc'
 	install -m 644 README.md LICENSE '$(PLACE)/share/doc/lambukir'
 	install -m 644 $(wildcard sample/*.c sample/*.py) sample/PERMIT.TXT sample/PRODUCTS.TXT '$(PLACE)/share/doc/lambukir/sample'
@@ -111,6 +116,12 @@ target/packages: tests/packages | target/compiler
 	@mkdir -p $(@D)
 	@touch $@
 
+# and what the benchmark alone needs
+target/bench-packages: tests/packages | target/packages
+	@tests/packages bench
+	@mkdir -p $(@D)
+	@touch $@
+
 target/sample/%: sample/%.c $(LIBRARY) $(HEADER) | target/compiler
 	@mkdir -p $(@D)
 	@$(CC) $(CFLAGS) -Itarget/include -o $@ $< $(LIBRARY)
@@ -124,9 +135,9 @@ target/tests/%.o: tests/%.c $(wildcard tests/*.h) $(HEADER) | target/packages
 target/tests/%: tests/%.c $(wildcard tests/*.h) $(MODEL) $(LIBRARY) $(PROBE)
 	$(CC) $(CFLAGS) -Itarget/include -o $@ $< $(MODEL) $(LIBRARY) $(PROBE) -lcrypto -lz
 
-target/bench/bench: bench/bench.c bench/book.c bench/products.c $(wildcard bench/*.h tests/*.h) $(MODEL) $(LIBRARY) $(PROBE)
+target/bench/bench: bench/bench.c bench/book.c bench/products.c $(wildcard bench/*.h tests/*.h) $(MODEL) $(LIBRARY) $(PROBE) | target/bench-packages
 	mkdir -p $(@D)
-	$(CC) $(CFLAGS) -Itarget/include -Itests -o $@ $< bench/book.c bench/products.c $(MODEL) $(LIBRARY) $(PROBE) -lcrypto -lz
+	$(CC) $(CFLAGS) -Itarget/include -Itests $(BOTAN) -o $@ $< bench/book.c bench/products.c $(MODEL) $(LIBRARY) $(PROBE) -lcrypto -lz -lbotan-2
 
 # with OpenSSL and zlib in it, so that both programs load the C library and nothing else
 target/bench/look_through: bench/look_through.c $(wildcard tests/*.h) $(MODEL) $(HEADER)

@@ -1,4 +1,4 @@
-/* Ours beside OpenSSL's, zlib's and plain C over them, in one run: the time of one call in ns, and ours over theirs.
+/* Ours beside OpenSSL's, Botan's, zlib's and plain C over them, in one run: the time of one call in ns, and ours over theirs.
 
    Each line measures one call on both sides, as a caller would make it:
      key schedule  a key of 6 bytes, another one each time, into a schedule of 1042 words
@@ -12,6 +12,7 @@
                    a tenant with 32 cells, and of one with all 512, whose branches ask an edition; a full book of version 1 is carried over
      list          a ship's cell against a product list of 20,000 rows, beside products.h's, which sorts the names; against one that was made to be
                    slow, beside ours in name order; and against one of 10 rows, see service.h
+     cell files    enciphering and opening 64 KiB and 16 MiB, the keys set up by each call, see charts.h; and the CRC-32 of 1 MiB
      look-through  the program beside bench/look_through.c, each a process of its own: from before its start until it has ended;
                    both load the C library and nothing else, since OpenSSL and zlib are linked into the C program
 
@@ -21,6 +22,7 @@
 #include <openssl/blowfish.h>
 #include <zlib.h>
 
+#include "charts.h"
 #include "desk.h"
 #include "measure.h"
 #include "permits.h"
@@ -145,6 +147,17 @@ int main(void)
     measure("list, shuffled", our_shuffled, their_shuffled, "plain C", 1);
     measure("list of 10 rows", our_few, their_few, "plain C", 200);
     measure_slow();
+    if (!make_charts()) {
+        puts("the cell files differ: no more is measured");
+        return 1;
+    }
+    measure("encipher 64 KiB", our_small_chart, their_small_chart, "Botan", 1);
+    measure("  by blocks", our_small_blocks, their_small_blocks, "OpenSSL", 1);
+    measure("open 64 KiB", our_small_opened, their_small_opened, "OpenSSL", 1);
+    measure_long("encipher 16 MiB", our_chart, their_chart, "Botan", CHART_ROUNDS);
+    measure_long("  by blocks", our_chart_blocks, their_chart_blocks, "OpenSSL", CHART_ROUNDS);
+    measure_long("open 16 MiB", our_opened, their_opened, "OpenSSL", CHART_ROUNDS);
+    measure("CRC-32 of 1 MiB", our_long_crc32, their_long_crc32, "zlib", 1);
     put_look_through(65000, false);
     measure("look-through 65000", our_look_through, their_look_through, "plain C", 1);
     put_look_through(65000, true);

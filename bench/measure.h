@@ -20,18 +20,33 @@ static inline double nanoseconds(void (*run)(int), int calls)
     return ((double)(to.tv_sec - from.tv_sec) * 1e9 + (double)(to.tv_nsec - from.tv_nsec)) / calls;
 }
 
-static inline void measure(const char *name, void (*ours)(int), void (*theirs)(int), const char *whose, int calls)
+/* The best round of ours and of theirs. */
+static inline void best_rounds(void (*ours)(int), void (*theirs)(int), int calls, int rounds, double best[2])
 {
     void (*sides[2])(int) = {ours, theirs};
-    double best[2] = {1e30, 1e30};
-    for (int round = 0; round < ROUNDS; round++)
+    best[0] = best[1] = 1e30;
+    for (int round = 0; round < rounds; round++)
         for (int turn = 0; turn < 2; turn++) {
             int side = (round + turn) % 2;
             double took = nanoseconds(sides[side], calls);
             if (took < best[side])
                 best[side] = took;
         }
+}
+
+static inline void measure(const char *name, void (*ours)(int), void (*theirs)(int), const char *whose, int calls)
+{
+    double best[2];
+    best_rounds(ours, theirs, calls, ROUNDS, best);
     printf("%-18s ours %9.1f ns   %-8s %9.1f ns   ratio %.2f\n", name, best[0], whose, best[1], best[0] / best[1]);
+}
+
+/* Of a call that takes long: few rounds, and milliseconds. */
+static inline void measure_long(const char *name, void (*ours)(int), void (*theirs)(int), const char *whose, int rounds)
+{
+    double best[2];
+    best_rounds(ours, theirs, 1, rounds, best);
+    printf("%-18s ours %9.1f ms   %-8s %9.1f ms   ratio %.2f\n", name, best[0] / 1e6, whose, best[1] / 1e6, best[0] / best[1]);
 }
 
 /* Two functions that run the same calls, of the library and of another's. */

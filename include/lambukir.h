@@ -1,8 +1,9 @@
 /* lambukir.h
 
-   Lambukir for C: S-63 user permits, cell permits, PERMIT.TXT files and product
-   lists (PRODUCTS.TXT), with the cipher and the checksum that permits are made
-   of, and the book of cell keys that sixteen agents share.
+   Lambukir for C: S-63 user permits, cell permits, PERMIT.TXT files, product
+   lists (PRODUCTS.TXT) and enciphered cell files, with the cipher and the
+   checksum that these are made of, and the book of cell keys that sixteen
+   agents share.
 
    Link with liblambukir.so or liblambukir.a: pkg-config has the flags, under the
    name lambukir. Both need the C library and nothing else, and both are for
@@ -14,12 +15,14 @@
    keeps anything between calls, so threads may call them at the same time; on
    one book see "How to keep a book". A call takes at most 6 KiB of stack, but
    for lambukir_product_standing and lambukir_carry_over, which say what they
-   take. None wipes the stack: what a call worked with, a key's words among it,
-   stays there until something else is written over it.
+   take, and for lambukir_crc32 and the four of "Cell files", which take at most
+   12 KiB. None wipes the stack: what a call worked with, a key's words among
+   it, stays there until something else is written over it.
 
    A call takes a microsecond or two, and some 35 more for each key of the
    cipher that it has to set up: where it does, it says "one key set-up". Only
-   what goes through a long slice takes longer: a CRC-32, a product list.
+   what goes through a long slice takes longer: a CRC-32, a product list, a cell
+   file.
 
    Slices
 
@@ -73,13 +76,14 @@
    An example
 
    Of the short programs beside the sources, sample/desk.c shows each call on a
-   book, sample/keep.c keeps one in a file, and sample/standing.c holds a ship's
-   cells against a product list. Here we make a user permit, and read a file to
-   its end. It prints
+   book, sample/keep.c keeps one in a file, sample/standing.c holds a ship's
+   cells against a product list, and sample/cell_file.c enciphers a cell file
+   and opens it. Here we make a user permit, and read a file to its end.
+   It prints
 
      73871727080876A07E450C043031
      NO4D0613 until 20000830: 20, the permit expires soon
-     12, wrong shape of line, row, header or place
+     12, wrong shape of line, row, header, place or cell file
 
      #include <inttypes.h>
      #include <lambukir.h>
@@ -128,9 +132,9 @@
 /* The version of this header: as text, and as a number, 10000 for the first of
    its three, 100 for the second and 1 for the third. While the first is 0, a
    new second number may change the interface, and the shared library's name
-   changes with it (liblambukir.so.0.12). */
-#define LAMBUKIR_VERSION "0.12.0"
-#define LAMBUKIR_VERSION_NUMBER 1200
+   changes with it (liblambukir.so.0.13). */
+#define LAMBUKIR_VERSION "0.13.0"
+#define LAMBUKIR_VERSION_NUMBER 1300
 
 /* The numbers that come back
 
@@ -141,14 +145,15 @@
    beside a number is what lambukir_meaning says of it. */
 #define LAMBUKIR_DONE 0               /* done */
 #define LAMBUKIR_NO_LINE 11           /* no line in the ENC part of the file */
-#define LAMBUKIR_WRONG_SHAPE 12       /* wrong shape of line, row, header or place */
+#define LAMBUKIR_WRONG_SHAPE 12       /* wrong shape of line, row, header, place or cell file */
 #define LAMBUKIR_WRONG_CHECK 13       /* the check part is wrong for this HW_ID */
 #define LAMBUKIR_WRONG_TODAY 14       /* today is no date */
 #define LAMBUKIR_EXPIRED 15           /* the permit has expired */
+#define LAMBUKIR_WRONG_FILE_CRC 16    /* the CRC of the cell file is wrong */
 #define LAMBUKIR_WRONG_CRC 17         /* the CRC of the user permit is wrong */
 #define LAMBUKIR_WRONG_HW_ID 18       /* the HW_ID is not of its form */
 #define LAMBUKIR_SOON 20              /* the permit expires soon */
-#define LAMBUKIR_WRONG_PADDING 21     /* a key is wrongly padded */
+#define LAMBUKIR_WRONG_PADDING 21     /* wrong padding, of a key or of a cell file */
 #define LAMBUKIR_BEHIND 27            /* the ship is behind the product list */
 #define LAMBUKIR_BOOK_DAMAGED 101     /* the book is damaged or of wrong length */
 #define LAMBUKIR_WRONG_TENANT 102     /* the tenant is above 15 */
@@ -166,9 +171,9 @@
 /* Of a record 0 says that its permit is current; 15 and 20 are for subscriptions
    alone. 12 is also for a date in a line, row or header that is none; 18 for a
    HW_ID that was given, or that a user permit holds, in which a small letter is
-   wrong; with 21 the check part is right. Each function says of which values it
-   gives 103, and for how short an output 108, which lambukir_carry_over gives
-   for one that is too long, too. */
+   wrong; with 21 of a line the check part is right. Each function says of which
+   values it gives 103, and for how short an output 108, which
+   lambukir_carry_over gives for one that is too long, too. */
 #define LAMBUKIR_CURRENT LAMBUKIR_DONE
 
 /* Sizes, in bytes where nothing else is said. */
@@ -182,6 +187,8 @@
 #define LAMBUKIR_CELLS 512          /* the most cells of a book, all tenants' */
 #define LAMBUKIR_IDS_SIZE 32        /* the Data Server IDs of all tenants */
 #define LAMBUKIR_TEXT_SIZE 64       /* a text that is an answer, with its NUL */
+#define LAMBUKIR_CELL_FILE_SIZE 16777216  /* the longest cell file, or part */
+#define LAMBUKIR_ENCIPHERED_SIZE 16777224 /* the longest that is opened */
 
 /* Service levels */
 #define LAMBUKIR_SUBSCRIPTION 0
@@ -359,7 +366,7 @@ typedef struct {
 lambukir_part
 lambukir_comment(const uint8_t *line, size_t line_length);
 
-/* The bytes that were written at the start of out, CR LF included. */
+/* How many bytes were written at the start of out, of a line with its CR LF. */
 typedef struct {
   uint64_t length;
   uint32_t number;
@@ -522,6 +529,139 @@ typedef struct {
 lambukir_standing
 lambukir_product_standing(const uint8_t *list, size_t list_length,
                           uint64_t name, uint32_t edition, uint32_t update);
+
+/* Cell files
+
+   A cell file, be it a base cell or an update, is enciphered by Blowfish under
+   a cell key: eight bytes at a time, each block by itself. S-63 packs it first
+   (zip, 10.5.2). To pack and to unpack is for the caller: file is here what is
+   to be enciphered, whatever its bytes are.
+
+   Padding: what is enciphered is the file and 1 to 8 bytes more, each of them
+   their count. After 13 bytes these are 03 03 03; after 16, or after none at
+   all, eight times 08. So 8 * (length / 8 + 1) bytes come out, and they tell
+   where the file ends. S-63 (4.2.3) asks for padding only where the length is
+   no multiple of 8; here there always is some, and a file that somebody
+   enciphered without any is not opened (21, and now and then 16).
+
+   CRC-32: opening asks for the CRC-32 of the bytes that were enciphered, of the
+   file without its padding. It tells the right key, and a file that went bad
+   on the way; it does not tell one that somebody changed on purpose who has the
+   key. This is our own rule: S-63 tells nobody this number, and the one in the
+   catalogue of an exchange set is taken before the file is packed. So take it
+   when the file is enciphered (lambukir_crc32), and keep it with what comes
+   out, for whoever is to open that.
+
+   A file or a part of one has at most LAMBUKIR_CELL_FILE_SIZE bytes, 16 MiB,
+   and what is opened 8 bytes more; an output may have any length. What parts
+   add up to is not bounded, but beyond 16 MiB lambukir_open_cell_file will not
+   take it. The bytes of out after those that were written stay as they were,
+   and file and out do not overlap. A call takes at most 12 KiB of stack for a
+   file of any length, and beside its key set-ups its time goes by the length:
+   make bench measures 64 KiB and 16 MiB. */
+
+/* Enciphers a whole file to the start of out, and answers how many bytes that
+   are, 8 * (file_length / 8 + 1). One key set-up; none after a refusal.
+
+   Refusals, in this order: 103, key is not below 2 to the 40th, or file has
+   more than 16 MiB; 108, out has less bytes than come out. */
+lambukir_written
+lambukir_encipher_file(uint64_t key, const uint8_t *file, size_t file_length,
+                       uint8_t *out, size_t out_length);
+
+/* length bytes were written at the start of out; carried_length bytes, 0 to 7,
+   are left of what was given, not yet enciphered. carried is their number, the
+   first byte at its top: 3 bytes 01 02 03 are 0x010203, and no bytes are 0.
+   After a refusal both are 0: whoever wants to try again, with a longer out,
+   still needs what it gave. */
+typedef struct {
+  uint64_t length;
+  uint64_t carried;
+  uint32_t carried_length;
+  uint32_t number;
+} lambukir_part_written;
+
+/* Enciphers a part of a file: the carried bytes and then the part, as far as
+   they make whole blocks. What is left is carried on to the next part, and at
+   last to lambukir_encipher_end. Wherever a file is cut, and however often, the
+   parts and the end give together what lambukir_encipher_file gives:
+
+     uint8_t part[4096], out[4096];
+     lambukir_part_written done = { 0, 0, 0, LAMBUKIR_DONE };
+     lambukir_written end;
+     size_t length;
+     while ((length = fread(part, 1, sizeof part, from)) > 0) {
+       done = lambukir_encipher_part(key, done.carried, done.carried_length,
+                                     part, length, out, sizeof out);
+       if (done.number != LAMBUKIR_DONE)
+         return done.number;
+       fwrite(out, 1, done.length, to);
+     }
+     end = lambukir_encipher_end(key, done.carried, done.carried_length,
+                                 out, sizeof out);
+     fwrite(out, 1, end.length, to);
+
+   (sample/cell_file.c looks at what fread and fwrite say, too.) An out of the
+   part's length, rounded up to a multiple of 8, is always long enough. A part
+   may be empty. lambukir_crc32 takes the whole file at once: whoever has it in
+   pieces alone takes the CRC-32 by other means, as by zlib.
+
+   One key set-up, for each part; none after a refusal, and none for a part that
+   gives no whole block. So let parts be long.
+
+   Refusals, in this order: 103, key is not below 2 to the 40th, part has more
+   than 16 MiB, carried_length is above 7, or carried is no number of so many
+   bytes (for none, not 0); 108, out has less than 8 * ((carried_length +
+   part_length) / 8) bytes. */
+lambukir_part_written
+lambukir_encipher_part(uint64_t key, uint64_t carried, uint32_t carried_length,
+                       const uint8_t *part, size_t part_length,
+                       uint8_t *out, size_t out_length);
+
+/* Enciphers the end of a file that was enciphered by parts: the carried bytes
+   with their padding, which is one block, 8 bytes. It is called once for each
+   file, also where nothing is carried. One key set-up; none after a refusal.
+
+   Refusals, in this order: 103, key, carried_length or carried as for a part;
+   108, out has less than 8 bytes. */
+lambukir_written
+lambukir_encipher_end(uint64_t key, uint64_t carried, uint32_t carried_length,
+                      uint8_t *out, size_t out_length);
+
+/* length bytes, the file without its padding, were written at the start of out;
+   key is 1 where key one opened it, and 2 where key two did. */
+typedef struct {
+  uint64_t length;
+  uint32_t key;
+  uint32_t number;
+} lambukir_cell_file;
+
+/* Opens an enciphered file, which is given whole, with the two keys of a cell
+   permit and the CRC-32 of the bytes that were enciphered. Key one is tried
+   first; the first key is taken under which padding and CRC-32 are both right.
+   Both may be the same. One key set-up for each key that is tried: key two is
+   tried only where key one fails.
+
+   out is as long as file at least, though less is written: 1 to 8 bytes less,
+   those of the padding. Nothing is written before all is judged, and after 21
+   and 16 nothing was.
+
+   Refusals, in this order:
+
+     103  a key is not below 2 to the 40th, or file has more than 16 MiB and 8
+     108  out is shorter than file
+     12   file has no byte, or its length is no multiple of 8
+     21   neither key gives right padding: the last block, deciphered, does not
+          end with n bytes n, n from 1 to 8. Both keys are wrong, or the last
+          block is
+     16   under one key or both the padding is right, but the CRC-32 of what
+          stands before it is another. The file or crc is wrong; or the keys
+          are, since one block in some 256 ends as if it were padded, so that
+          wrong keys give 16 now and then in the place of 21 */
+lambukir_cell_file
+lambukir_open_cell_file(const uint8_t *file, size_t file_length,
+                        uint64_t key_one, uint64_t key_two, uint32_t crc,
+                        uint8_t *out, size_t out_length);
 
 /* The book
 

@@ -10,6 +10,9 @@
 #define NAME 0x4E4F344430363133
 #define TODAY 20240131
 #define EXPIRY 20240331
+#define CELL_KEY 0xC1CB518E9C
+#define OTHER_KEY 0x421571CC66
+#define CELL_LENGTH 1000
 
 /* Slices that every call takes. Which of them are lent as nothing is for the test to say. */
 typedef struct {
@@ -17,9 +20,11 @@ typedef struct {
     size_t length;
 } slice;
 
-enum { BOOK, BOOK_1, NEW_BOOK, REGISTER, PERMIT, LINE, LINES, LIST, IDS, PRINCIPALS, KEY, TEXT, OUT, QUOTAS, SLICES };
+enum { BOOK, BOOK_1, NEW_BOOK, REGISTER, PERMIT, LINE, LINES, LIST, IDS, PRINCIPALS, KEY, TEXT, CELL, ENCIPHERED, OUT, LONG_OUT, QUOTAS, SLICES };
 
 static uint8_t book[LAMBUKIR_BOOK_SIZE], book_1[LAMBUKIR_BOOK_SIZE_1], new_book[LAMBUKIR_BOOK_SIZE];
+static uint8_t cell[CELL_LENGTH], enciphered[CELL_LENGTH + 8], long_out[CELL_LENGTH + 8];
+static uint32_t cell_crc;
 static uint8_t out[LAMBUKIR_LINE_SIZE], permit[LAMBUKIR_USER_PERMIT_SIZE], line[LAMBUKIR_LINE_SIZE];
 static const char ids[] = "NODEA2A3A4A5A6A7A8A9B0B1B2B3B4B5";
 static const char list[] = ":DATE 20240131 09:30\r\n:VERSION 2\r\n:CONTENT FULL\r\n:ENC\r\n"
@@ -37,6 +42,8 @@ static void fill(slice s[SLICES])
     lambukir_make_user_permit((const uint8_t *)"0198765", 7, HW_ID, 0x3031, permit, sizeof permit);
     lambukir_written written = lambukir_write_line(HW_ID, NAME, EXPIRY, 1, 2, 0, 10, 0x4742, line, sizeof line);
     int length = snprintf(file, sizeof file, ":DATE 20240131 09:30\r\n:VERSION 2\r\n:ENC\r\n%.*s:ECS\r\n", (int)written.length, (const char *)line);
+    lambukir_encipher_file(CELL_KEY, cell, sizeof cell, enciphered, sizeof enciphered);
+    cell_crc = lambukir_crc32(cell, sizeof cell);
     const slice all[SLICES] = {
         [BOOK] = {book, sizeof book},
         [BOOK_1] = {book_1, sizeof book_1},
@@ -50,7 +57,10 @@ static void fill(slice s[SLICES])
         [PRINCIPALS] = {principals, sizeof principals},
         [KEY] = {(const uint8_t *)"98765", 5},
         [TEXT] = {(const uint8_t *)"NO4D0613", 8},
+        [CELL] = {cell, sizeof cell},
+        [ENCIPHERED] = {enciphered, sizeof enciphered},
         [OUT] = {out, sizeof out},
+        [LONG_OUT] = {long_out, sizeof long_out},
         [QUOTAS] = {(const uint8_t *)quotas, LAMBUKIR_TENANTS},
     };
     memcpy(s, all, sizeof all);
@@ -61,9 +71,11 @@ static void fill(slice s[SLICES])
 #define LENT_TEXT (const char *)s[TEXT].bytes, s[TEXT].length
 
 /* Every function that takes a slice, each once; what one answers is told as one number. */
-#define CALLS 26
+#define CALLS 30
 #define STANDING 7
+#define CRC 14
 #define CARRY_OVER 24
+#define CELL_FILES 26 /* the first of those on cell files, which come last */
 
 static uint64_t call(int which, const slice s[SLICES])
 {
@@ -82,7 +94,7 @@ static uint64_t call(int which, const slice s[SLICES])
     case 11: return lambukir_ask_edition(LENT(BOOK), 0, NAME).number;
     case 12: return lambukir_issue(LENT(BOOK), LENT(REGISTER), 0, NAME, EXPIRY, 0, LENT(PERMIT), WRITTEN(OUT)).number;
     case 13: return lambukir_check(LENT(BOOK), 0, HW_ID, TODAY, LENT(LINE)).number;
-    case 14: return lambukir_crc32(LENT(LINES));
+    case CRC: return lambukir_crc32(LENT(CELL));
     case 15: return lambukir_encipher_block(LENT(KEY), 1).number;
     case 16: return lambukir_decipher_block(LENT(KEY), 1).number;
     case 17: return lambukir_open_book(WRITTEN(BOOK), (const uint16_t *)(const void *)s[QUOTAS].bytes, s[QUOTAS].length, LENT(IDS), LENT(PRINCIPALS));
@@ -93,7 +105,11 @@ static uint64_t call(int which, const slice s[SLICES])
     case 22: return lambukir_ask_producer(LENT(BOOK), 0, 0x4E4F).number;
     case 23: return lambukir_house_enter(WRITTEN(BOOK), 0, NAME + 1, 11, 3, 4, 0).number;
     case CARRY_OVER: return lambukir_carry_over(LENT(BOOK_1), WRITTEN(NEW_BOOK));
-    default: return lambukir_house_withdraw(WRITTEN(BOOK), 0, NAME).number;
+    case 25: return lambukir_house_withdraw(WRITTEN(BOOK), 0, NAME).number;
+    case CELL_FILES: return lambukir_encipher_file(CELL_KEY, LENT(CELL), WRITTEN(LONG_OUT)).length;
+    case 27: return lambukir_encipher_part(CELL_KEY, 0x010203, 3, LENT(CELL), WRITTEN(LONG_OUT)).carried;
+    case 28: return lambukir_encipher_end(CELL_KEY, 0x010203, 3, WRITTEN(OUT)).number;
+    default: return lambukir_open_cell_file(LENT(ENCIPHERED), OTHER_KEY, CELL_KEY, cell_crc, WRITTEN(LONG_OUT)).number;
     }
 }
 
@@ -152,18 +168,17 @@ static size_t stack_of(int which, const slice s[SLICES])
     return STACK - untouched;
 }
 
-/* At most 6 KiB, but for a product list whose names do not rise, as these do not: 600 KiB. */
-/* How many KiB a call may take. */
+/* How many KiB a call may take: 6, but for a product list whose names do not rise, as these do not, for the carry-over, for CRC-32 and for cell files. */
 static size_t stack_for(int which)
 {
-    return which == STANDING ? 600 : which == CARRY_OVER ? 15 : 6;
+    return which == STANDING ? 600 : which == CARRY_OVER ? 15 : which == CRC || which >= CELL_FILES ? 12 : 6;
 }
 
 static void stack_taken(void)
 {
     slice s[SLICES];
     fill(s);
-    size_t idle = stack_of(-1, s), most = 0;
+    size_t idle = stack_of(-1, s), most = 0, most_of_files = 0;
     for (int which = 0; which < CALLS; which++) {
         fill(s);
         call(which, s); /* once before, so that finding a function of the C library, which takes stack as well, is not measured */
@@ -172,13 +187,16 @@ static void stack_taken(void)
         same(taken <= stack_for(which) << 10, 1, "call %d takes %zu bytes of stack", which, taken);
         if (stack_for(which) == 6 && taken > most)
             most = taken;
+        if (stack_for(which) == 12 && taken > most_of_files)
+            most_of_files = taken;
         if (which == STANDING)
             printf("  a product list out of order takes %zu bytes of stack\n", taken);
         if (which == CARRY_OVER)
             printf("  carrying a book over takes %zu\n", taken);
     }
+    printf("  CRC-32 and the calls on cell files take at most %zu\n", most_of_files);
     printf("  the other calls take at most %zu\n", most);
-    same(most > 4096, 1, "a key's words were seen on the stack");
+    same(most > 4096 && most_of_files > 4096, 1, "a key's words were seen on the stack");
 }
 
 int main(int argc, char **argv)

@@ -17,6 +17,12 @@ lambukir_written model_write_line(uint64_t hw_id, uint64_t name, uint32_t expiry
 lambukir_place model_open_file(const uint8_t *file, size_t file_length);
 lambukir_file_line model_read_file_line(uint64_t hw_id, uint32_t today, uint32_t days, const uint8_t *file, size_t file_length, size_t place);
 lambukir_standing model_product_standing(const uint8_t *list, size_t list_length, uint64_t name, uint32_t edition, uint32_t update);
+lambukir_written model_encipher_file(uint64_t key, const uint8_t *file, size_t file_length, uint8_t *out, size_t out_length);
+lambukir_part_written model_encipher_part(uint64_t key, uint64_t carried, uint32_t carried_length, const uint8_t *part, size_t part_length, uint8_t *out,
+                                          size_t out_length);
+lambukir_written model_encipher_end(uint64_t key, uint64_t carried, uint32_t carried_length, uint8_t *out, size_t out_length);
+lambukir_cell_file model_open_cell_file(const uint8_t *file, size_t file_length, uint64_t key_one, uint64_t key_two, uint32_t crc, uint8_t *out,
+                                        size_t out_length);
 
 /* The look-through: what it prints for an input, and how long that is. The key is set up once for the file. */
 #define MODEL_INPUT 65536 /* the longest input that is not refused */
