@@ -124,15 +124,15 @@ file-wrote key x file words before middle after below k fits room w m e is =
     let b = enciphered key (paddedFile c) in
     let size-a : length a ≡ whole = enciphered-length key file in
     let block : bytesOf 8 (encipherOf words (padOf (length file - whole) x)) ≡ b =
-        ap₂ (λ (l : List ℕ) (y : ℕ). bytesOf 8 (encipherOf l (padOf (length file - whole) y))) w e
-        ∙ ap (λ (n : ℕ). bytesOf 8 (encipherOf (cellWords key) (padOf n (bytesNumber c)))) (sym left)
-        ∙ sym (rest-enciphered key c (drop-below whole file below) (omega (arith, left))) in
+    ap₂ (λ (l : List ℕ) (y : ℕ). bytesOf 8 (encipherOf l (padOf (length file - whole) y))) w e
+    ∙ ap (λ (n : ℕ). bytesOf 8 (encipherOf (cellWords key) (padOf n (bytesNumber c)))) (sym left)
+    ∙ sym (rest-enciphered key c (drop-below whole file below) (omega (arith, left))) in
     let size-b : length b ≡ 8 = ap length (sym block) ∙ digits-length 256 8 (encipherOf words (padOf (length file - whole) x)) in
     let start : middle ≡ placed 0 a before =
-        m ∙ ap (λ (l : List ℕ). blocksPut (encipherOf l) file before) w ∙ put-start (encipherOf (cellWords key)) file before (omega arith)
-        ∙ sym (placed-start a before (omega arith)) in
+    m ∙ ap (λ (l : List ℕ). blocksPut (encipherOf l) file before) w ∙ put-start (encipherOf (cellWords key)) file before (omega arith)
+    ∙ sym (placed-start a before (omega arith)) in
     let all : after ≡ placed 0 (a ++ b) before =
-        is ∙ ap₂ (placed whole) block start ∙ placed-next 0 whole a b before (omega arith) (omega arith) in
+    is ∙ ap₂ (placed whole) block start ∙ placed-next 0 whole a b before (omega arith) (omega arith) in
     let size : length (a ++ b) ≡ whole + 8 = length-append a b ∙ omega arith in
     wrote (fileWritten key file (length before)) (a ++ b) (whole + 8) before after
     (file-done key file (length before) (is-key key k) fits (omega arith) ∙ ap text (file-pieces key file))

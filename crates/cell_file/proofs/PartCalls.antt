@@ -185,8 +185,8 @@ module _ (n x : ℕ) (part : List ℕ) (few : n ≤ 7) (fits : x < 256 ^ n) wher
         let t = enciphered key both in
         let size : length t ≡ 8 * ((n + length part) / 8) = enciphered-length key both ∙ omega (arith, both-length) in
         let written : after ≡ placed 0 t before =
-            is
-            ∙ ap₂ (λ (l : List ℕ) (m : ℕ). placed 0 (eachBlock (encipherOf l) (m / 8) both) before) w (sym both-length) in
+        is
+        ∙ ap₂ (λ (l : List ℕ) (m : ℕ). placed 0 (eachBlock (encipherOf l) (m / 8) both) before) w (sym both-length) in
         let rest : y ≡ bytesNumber (carriedOn both) = gathered ∙ omega arith ∙ ap bytesNumber left-is in
         part-answered (partWritten key x n part (length before)) t (carriedOn both) before after _ y _
         (part-done key x n part (length before) (is-key key k) carried h room)

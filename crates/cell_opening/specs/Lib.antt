@@ -1,2 +1,4 @@
 pub mod Opening
+pub mod Judging
+pub mod Answers
 pub mod ReadBack

@@ -1,7 +1,7 @@
 -- Four bytes that come in one after the other come in as a word.
 -- Assumes nothing.
 use mathlib.Core.Path.{_≡_, refl, sym, ap, _∙_}
-use mathlib.Core.List.{List}
+use mathlib.Core.List.{List, [], _∷_, _++_}
 use Prim.Native.Nat.{ℕ, _+_, _*_, _^_, _<_, _≤_}
 use native.Mathlib.Numerals.{add-one}
 use native.Mathlib.Omega.{arith}
@@ -39,3 +39,9 @@ word-in s bytes c i h =
     ∙ one-in s _ (i + 3) (i + 4) (omega arith) (omega arith)
     ∙ ap (λ (x : ℕ). feedAll x (drop (i + 4) s))
     (four c (getD s i 0) (getD s (i + 1) 0) (getD s (i + 2) 0) (getD s (i + 3) 0) (bytes i) (bytes (i + 1)) (bytes (i + 2)))
+
+-- what comes in piece by piece comes in as at once
+pub fed-more : (c : ℕ) (s t : List ℕ) → feedAll c (s ++ t) ≡ feedAll (feedAll c s) t
+unfolding feedAll
+fed-more c [] t = refl
+fed-more c (b ∷ s) t = fed-more (feed c b) s t

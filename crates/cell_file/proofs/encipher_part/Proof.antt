@@ -4,7 +4,15 @@ use native.Mathlib.Omega.{arith}
 use borrow.Author.Tests.{not-true, not-false}
 use Rattle.cell_file.proofs.Calls.{carried-says}
 use Rattle.cell_file.proofs.PartCalls.{
-  part-no-key, part-too-long, part-not-carried, part-no-room, part-refused, few-fit, part-kept, left-fits, part-wrote,
+  part-no-key,
+  part-too-long,
+  part-not-carried,
+  part-no-room,
+  part-refused,
+  few-fit,
+  part-kept,
+  left-fits,
+  part-wrote,
 }
 use borrow.Author.Needs.{needs}
 use Rattle.cell_file.proofs.encipher_part.Statement.{statement}
