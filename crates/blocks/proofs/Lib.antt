@@ -1,2 +1,3 @@
 pub mod EachBlocks
 pub mod FourRounds
+pub mod Turns

@@ -1,10 +1,5 @@
 -- `blocks::encipher_blocks` meets its contract.
-use mathlib.Core.Path.{ap, _∙_}
-use mathlib.Core.List.{List}
-use Prim.Native.Nat.{ℕ}
-use Rattle.blocks.specs.Blocks.{blocksPut}
-use Rattle.blocks.specs.Fours.{cipherBy}
-use Rattle.blocks.proofs.FourRounds.{near-enciphers}
+use Rattle.blocks.proofs.FourRounds.{near-put}
 use borrow.Author.Needs.{needs}
 use Rattle.blocks.proofs.encipher_blocks.Statement.{statement}
 use Rattle.blocks.proofs.encipher_blocks.Tie as tie
@@ -22,9 +17,7 @@ returns : tie.Need-returns
 returns c =
     let chosen = c .before .before .before .before .before in
     let args = chosen .before .before .before .args in
-    c .before .before .cipher-blocks .ensures
-    ∙ ap (λ (p : List ℕ). blocksPut (cipherBy (args .words .now) p) (args .s .now) (args .out .now)) (chosen .near-p .ensures)
-    ∙ ap (λ (f : ℕ → ℕ). blocksPut f (args .s .now) (args .out .now)) (near-enciphers (args .words .now))
+    near-put (args .words .now) (args .s .now) (args .out .now) (c .before .before .cipher-blocks .ensures) (chosen .near-p .ensures)
 
 pub encipher-blocks-spec : {M : Type 1} → statement M
 encipher-blocks-spec = tie.close (tie.spec near-p-requires cipher-blocks-requires same-length returns)
