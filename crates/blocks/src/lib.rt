@@ -8,6 +8,7 @@ ghost use Rattle.blocks.specs.Blocks.{blocksOfBoth, blocksPut};
 ghost use Rattle.blocks.specs.Fours.{eighteen, each, listed, fourAt, cipherBy, blockPut, allPut};
 use blowfish::Block;
 
+// Four blocks side by side.
 struct Four {
     a: Block,
     b: Block,
@@ -22,7 +23,7 @@ fn block_at(s: &[u8], at: usize) -> Block
     blowfish::parted(bytes::numbers::number64(s, at))
 }
 
-// The four blocks from a place on. Those that s has no more are zeros.
+// The four blocks from a place on; zeros where s has no more.
 fn four_at(s: &[u8], at: usize) -> Four
     requires { ⌜ at ≤ length (now s) ⌝ }
     ensures { λ r. ⌜ r ≡ fourAt (now (s .entry)) at ⌝ }
@@ -47,6 +48,7 @@ fn round_four(words: &[u32; 1042], p: u32, b: Four) -> Four
     }
 }
 
+// After the sixteen rounds: the four as numbers.
 fn finish_four(p17: u32, p18: u32, b: Four) -> [u64; 4]
     ensures { λ r. ⌜ r ≡ listed (λ x. blockNumber (finish p17 p18 x)) b ⌝ }
 {
@@ -127,7 +129,7 @@ fn next_of(left: usize) -> usize
     if left < 4 { left } else { 4 }
 }
 
-// All the blocks, with the words of P in the order of p.
+// All the blocks, with the words of P in the order of p. A last four that is not whole is worked as one, and what is there is put.
 fn cipher_blocks(words: &[u32; 1042], p: &[u32; 18], s: &[u8], out: &mut [u8])
     ensures { λ _. ⌜ now (out .exit) ≡ blocksPut (cipherBy (now (words .entry)) (now (p .entry))) (now (s .entry)) (now (out .entry)) ⌝ }
 {
@@ -193,10 +195,15 @@ fn far_p(words: &[u32; 1042]) -> [u32; 18]
     ]
 }
 
-// As many whole blocks of s as have room in out, enciphered each by itself.
+// As many whole blocks of s as have room in out, enciphered each by itself. A block alone goes alone: in a four it would take half as long again.
 pub fn encipher_blocks(words: &[u32; 1042], s: &[u8], out: &mut [u8])
     ensures { λ _. ⌜ now (out .exit) ≡ blocksPut (encipherOf (now (words .entry))) (now (s .entry)) (now (out .entry)) ⌝ }
 {
+    if blocks_of_both(s, out) == 1 {
+        let block = bytes::numbers::number64(s, 0);
+        put_block(out, 0, blowfish::encipher(words, block));
+        return;
+    }
     let p = near_p(words);
     cipher_blocks(words, &p, s, out);
 }
@@ -205,6 +212,11 @@ pub fn encipher_blocks(words: &[u32; 1042], s: &[u8], out: &mut [u8])
 pub fn decipher_blocks(words: &[u32; 1042], s: &[u8], out: &mut [u8])
     ensures { λ _. ⌜ now (out .exit) ≡ blocksPut (decipherOf (now (words .entry))) (now (s .entry)) (now (out .entry)) ⌝ }
 {
+    if blocks_of_both(s, out) == 1 {
+        let block = bytes::numbers::number64(s, 0);
+        put_block(out, 0, blowfish::decipher(words, block));
+        return;
+    }
     let p = far_p(words);
     cipher_blocks(words, &p, s, out);
 }
