@@ -5,7 +5,7 @@ ghost use lib.ListN.{length};
 ghost use Rattle.bytes.specs.Places.{numberAt};
 ghost use Rattle.blowfish.specs.Cipher.{F, P, farEnd, round, finish, cipher, blockOf, blockNumber, encipherOf, decipherOf};
 ghost use Rattle.blocks.specs.Blocks.{blocksOfBoth, blocksPut};
-ghost use Rattle.blocks.specs.Fours.{eighteen, each, listed, fourAt, cipherBy, blockPut, allPut};
+ghost use Rattle.blocks.specs.Fours.{eighteen, each, listed, firstFour, cipherBy, blockPut, allPut};
 use blowfish::Block;
 
 // Four blocks side by side.
@@ -23,16 +23,15 @@ fn block_at(s: &[u8], at: usize) -> Block
     blowfish::parted(bytes::numbers::number64(s, at))
 }
 
-// The four blocks from a place on; zeros where s has no more.
-fn four_at(s: &[u8], at: usize) -> Four
-    requires { ⌜ at ≤ length (now s) ⌝ }
-    ensures { λ r. ⌜ r ≡ fourAt (now (s .entry)) at ⌝ }
+// The first four blocks of s; zeros where it has no more. At fixed places the test that each lies within s is one comparison.
+fn first_four(s: &[u8]) -> Four
+    ensures { λ r. ⌜ r ≡ firstFour (now (s .entry)) ⌝ }
 {
     Four {
-        a: block_at(s, at),
-        b: block_at(s, at + 8),
-        c: block_at(s, at + 16),
-        d: block_at(s, at + 24),
+        a: block_at(s, 0),
+        b: block_at(s, 8),
+        c: block_at(s, 16),
+        d: block_at(s, 24),
     }
 }
 
@@ -136,7 +135,7 @@ fn cipher_blocks(words: &[u32; 1042], p: &[u32; 18], s: &[u8], out: &mut [u8])
     let n = blocks_of_both(s, out);
     let mut i: usize = 0;
     while i < n {
-        let four = cipher_four(words, p, four_at(s, 8 * i));
+        let four = cipher_four(words, p, first_four(&s[8 * i..]));
         let k = next_of(n - i);
         put_blocks(out, 8 * i, &four, k);
         i += k;

@@ -28,11 +28,11 @@ loop-again : tie.Need-loop-again Inv-loop μ-loop
 loop-again c =
     let counted = c .before .before .before .before .before in
     let read = counted .before .before in
-    let begin = read .before .before in
+    let begin = read .before .before .before in
     let args = begin .before .before .before .before .before .args in
     let turn =
-    one-turn (args .words .now) (args .p .now) (args .s .now) (args .out .now) (begin .loop .i) (counted .next-of .result) (omega arith) (omega arith)
-    (begin .loop .inv .4) (read .four-at .ensures) (counted .before .cipher-four .ensures) (c .before .before .put-blocks .ensures) in
+    one-turn (args .words .now) (args .p .now) (args .s .now) (args .out .now) (begin .loop .i) (counted .next-of .result) (omega arith) (omega arith) (omega arith)
+    (begin .loop .inv .4) (read .first-four .ensures) (counted .before .cipher-four .ensures) (c .before .before .put-blocks .ensures) in
     (omega arith, search needs, search needs, turn .0, turn .1)
 
 same-length : tie.Need-same-length Inv-loop μ-loop
@@ -53,6 +53,9 @@ cipher-blocks-spec =
     μ-loop
     (λ c κs. search needs)
     loop-holds
+    (λ c. search needs)
+    (λ c. search needs)
+    (λ c. search needs)
     (λ c. search needs)
     (λ c κs. search needs)
     (λ c κs. search needs)
