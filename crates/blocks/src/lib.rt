@@ -82,7 +82,7 @@ fn cipher_four(words: &[u32; 1042], p: &[u32; 18], mut b: Four) -> [u64; 4]
     finish_four(p[16], p[17], b)
 }
 
-// The eight bytes of x put at a place: the compiler makes one store of these.
+// The eight bytes of x put at a place.
 fn put_block(out: &mut [u8], at: usize, x: u64)
     requires { ⌜ at + 8 ≤ length (now out) ⌝ }
     ensures { λ _. ⌜ now (out .exit) ≡ blockPut at x (now (out .entry)) ⌝ }
@@ -97,7 +97,7 @@ fn put_block(out: &mut [u8], at: usize, x: u64)
     out[at + 7] = (x % 256) as u8;
 }
 
-// The first n of four blocks put one after the other. In a loop: of 32 stores in a row the compiler makes 32.
+// The first n of four blocks put one after the other. In a loop the compiler makes one store of a block's eight; of 32 in a row it makes 32.
 fn put_blocks(out: &mut [u8], at: usize, blocks: &[u64; 4], n: usize)
     requires { ⌜ (n ≤ 4) × (at + 8 * n ≤ length (now out)) ⌝ }
     ensures { λ _. ⌜ now (out .exit) ≡ allPut (now (blocks .entry)) at n (now (out .entry)) ⌝ }
@@ -194,7 +194,7 @@ fn far_p(words: &[u32; 1042]) -> [u32; 18]
     ]
 }
 
-// As many whole blocks of s as have room in out, enciphered each by itself. A block alone goes alone: in a four it would take half as long again.
+// As many whole blocks of s as have room in out, enciphered each by itself. A block alone goes alone: in a four it would wait for three that are not there.
 pub fn encipher_blocks(words: &[u32; 1042], s: &[u8], out: &mut [u8])
     ensures { λ _. ⌜ now (out .exit) ≡ blocksPut (encipherOf (now (words .entry))) (now (s .entry)) (now (out .entry)) ⌝ }
 {
