@@ -2,7 +2,7 @@
 -- Assumes nothing.
 use mathlib.Core.Path.{_≡_, refl, sym, ap, _∙_}
 use mathlib.Core.List.{List, [], _∷_, _++_, append-assoc}
-use Prim.Native.Nat.{ℕ, zero, suc, _+_, _-_, _*_, _≤_, _<_}
+use Prim.Native.Nat.{ℕ, zero, suc, _+_, _*_, _≤_, _<_}
 use native.Mathlib.Nat.{add-zero, add-suc}
 use native.Mathlib.Omega.{arith}
 use borrow.Author.Tests.{ltb-true, ltb-false}
@@ -13,7 +13,7 @@ use Rattle.bytes.specs.Numbers.{bytesOf}
 use Rattle.bytes.specs.Places.{numberAt}
 use Rattle.bytes.proofs.Digits.{digits-length}
 use Rattle.bytes.proofs.Every.{either}
-use Rattle.blocks.specs.Blocks.{eachBlock, blocksOfBoth}
+use Rattle.blocks.specs.Blocks.{eachBlock, blocksOfBoth, blocksPut}
 use Rattle.blocks.specs.Fours.{blockPut, allPut}
 
 pub each-block-length : (f : ℕ → ℕ) (n : ℕ) (s : List ℕ) → length (eachBlock f n s) ≡ 8 * n
@@ -68,6 +68,17 @@ module _ (f : ℕ → ℕ) (s out : List ℕ) where
         ∙ ap (λ (at : ℕ). blockPut at (f (numberAt 8 s (8 * (n + k)))) (worked (n + k))) place
         ∙ worked-next (n + k)
         ∙ ap worked (sym (add-suc n k))
+
+-- a block alone
+pub one-alone : (f : ℕ → ℕ) (s out : List ℕ) {x y : ℕ} {after : List ℕ} → blocksOfBoth s out ≡ 1 → x ≡ numberAt 8 s 0 → y ≡ f x → after ≡ blockPut 0 y out
+    → after ≡ blocksPut f s out
+unfolding blocksPut
+one-alone f s out {x} {y} {after} alone read made put =
+    put
+    ∙ ap (λ (z : ℕ). blockPut 0 z out) (made ∙ ap f read)
+    ∙ ap (blockPut 0 (f (numberAt 8 s 0))) (worked-none f s out)
+    ∙ worked-next f s out 0
+    ∙ ap (worked f s out) (sym alone)
 
 -- the length of a slice stays
 pub block-put-length : (at x : ℕ) (out : List ℕ) → at + 8 ≤ length out → length (blockPut at x out) ≡ length out

@@ -2,15 +2,15 @@
 -- Assumes nothing.
 use mathlib.Core.Path.{_≡_, refl, sym, ap, ap₂, _∙_}
 use mathlib.Core.List.{List}
-use Prim.Native.Nat.{ℕ, zero, suc, _+_, _*_, _≤_, _<_}
+use Prim.Native.Nat.{ℕ, zero, suc, _+_, _≤_, _<_}
 use native.Mathlib.Nat.{zero-add, add-zero, add-suc, suc-add}
 use native.Mathlib.Omega.{arith}
 use lib.ListN.{getD}
-use Rattle.bytes.specs.Places.{numberAt}
 use Rattle.blowfish.specs.Cipher.{F, P, round, rounds, finish, cipher, blockOf, blockNumber, farEnd, encipherOf, decipherOf}
 use Rattle.blowfish.specs.declared.Block.{Block}
 use Rattle.blocks.specs.declared.Four.{Four}
-use Rattle.blocks.specs.Fours.{listFrom, eighteen, each, listed, fourAt, cipherBy}
+use Rattle.blocks.specs.Blocks.{blocksPut}
+use Rattle.blocks.specs.Fours.{listFrom, eighteen, each, listed, cipherBy}
 
 -- four blocks are the same where each is
 pub same-four : {a b c d a′ b′ c′ d′ : Block} → a ≡ a′ → b ≡ b′ → c ≡ c′ → d ≡ d′
@@ -30,15 +30,6 @@ module _ (f p : ℕ → ℕ) (b : Four) where
       → listed (λ (y : Block). blockNumber (finish (p 16) (p 17) y)) x ≡ listed (λ (y : Block). blockNumber (cipher f p y)) b
   unfolding cipher
   sixteen-four e = ap (listed (λ (y : Block). blockNumber (finish (p 16) (p 17) y))) e
-
--- the numbers of the four blocks from block n on
-pub four-numbers : (w p s : List ℕ) (n k : ℕ) → k < 4
-    → getD (listed (λ (y : Block). blockNumber (cipher (F w) (P p) y)) (fourAt s (8 * n))) k 0 ≡ cipherBy w p (numberAt 8 s (8 * (n + k)))
-four-numbers w p s n zero h = let e : 8 * n ≡ 8 * (n + 0) = omega arith in ap (λ (at : ℕ). cipherBy w p (numberAt 8 s at)) e
-four-numbers w p s n (suc zero) h = let e : 8 * n + 8 ≡ 8 * (n + 1) = omega arith in ap (λ (at : ℕ). cipherBy w p (numberAt 8 s at)) e
-four-numbers w p s n (suc (suc zero)) h = let e : 8 * n + 16 ≡ 8 * (n + 2) = omega arith in ap (λ (at : ℕ). cipherBy w p (numberAt 8 s at)) e
-four-numbers w p s n (suc (suc (suc zero))) h = let e : 8 * n + 24 ≡ 8 * (n + 3) = omega arith in ap (λ (at : ℕ). cipherBy w p (numberAt 8 s at)) e
-four-numbers w p s n (suc (suc (suc (suc k)))) h = absurd (omega arith)
 
 list-from-at : (p : ℕ → ℕ) (k n i : ℕ) → i < n → getD (listFrom p k n) i 0 ≡ p (k + i)
 unfolding listFrom
@@ -62,12 +53,25 @@ module _ (f p q : ℕ → ℕ) (same : (i : ℕ) → i < 18 → p i ≡ q i) (b 
 cipher-eighteen : (f p : ℕ → ℕ) (b : Block) → cipher f (P (eighteen p)) b ≡ cipher f p b
 cipher-eighteen f p b = same-cipher f (P (eighteen p)) p (λ i h. list-from-at p 0 18 i h ∙ ap p (zero-add i)) b
 
--- P from the near end enciphers
-pub near-enciphers : (w : List ℕ) → cipherBy w (eighteen (P w)) ≡ encipherOf w
+near-enciphers : (w : List ℕ) → cipherBy w (eighteen (P w)) ≡ encipherOf w
 unfolding encipherOf
 near-enciphers w = λ i x. ap blockNumber (cipher-eighteen (F w) (P w) (blockOf x)) i
 
--- and from the far end deciphers
-pub far-deciphers : (w : List ℕ) → cipherBy w (eighteen (farEnd w)) ≡ decipherOf w
+far-deciphers : (w : List ℕ) → cipherBy w (eighteen (farEnd w)) ≡ decipherOf w
 unfolding decipherOf
 far-deciphers w = λ i x. ap blockNumber (cipher-eighteen (F w) (farEnd w) (blockOf x)) i
+
+module _ (w s out : List ℕ) {p r : List ℕ} (put : r ≡ blocksPut (cipherBy w p) s out) where
+  -- P from the near end enciphers
+  pub near-put : p ≡ eighteen (P w) → r ≡ blocksPut (encipherOf w) s out
+  near-put e =
+      put
+      ∙ ap (λ (q : List ℕ). blocksPut (cipherBy w q) s out) e
+      ∙ ap (λ (f : ℕ → ℕ). blocksPut f s out) (near-enciphers w)
+
+  -- and from the far end deciphers
+  pub far-put : p ≡ eighteen (farEnd w) → r ≡ blocksPut (decipherOf w) s out
+  far-put e =
+      put
+      ∙ ap (λ (q : List ℕ). blocksPut (cipherBy w q) s out) e
+      ∙ ap (λ (f : ℕ → ℕ). blocksPut f s out) (far-deciphers w)

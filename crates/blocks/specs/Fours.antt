@@ -25,13 +25,13 @@ each g b = record { a = g (b .a); b = g (b .b); c = g (b .c); d = g (b .d) }
 abbrev pub listed : (Block → ℕ) → Four → List ℕ
 listed g b = g (b .a) ∷ g (b .b) ∷ g (b .c) ∷ g (b .d) ∷ []
 
--- the four blocks of s from place at on
-abbrev pub fourAt : List ℕ → ℕ → Four
-fourAt s at = record {
-  a = blockOf (numberAt 8 s at);
-  b = blockOf (numberAt 8 s (at + 8));
-  c = blockOf (numberAt 8 s (at + 16));
-  d = blockOf (numberAt 8 s (at + 24));
+-- the first four blocks of s
+abbrev pub firstFour : List ℕ → Four
+firstFour s = record {
+  a = blockOf (numberAt 8 s 0);
+  b = blockOf (numberAt 8 s 8);
+  c = blockOf (numberAt 8 s 16);
+  d = blockOf (numberAt 8 s 24);
 }
 
 -- a block as a number, with the words w and P in the order of p

@@ -5,9 +5,10 @@ ghost use lib.ListN.{length};
 ghost use Rattle.bytes.specs.Places.{numberAt};
 ghost use Rattle.blowfish.specs.Cipher.{F, P, farEnd, round, finish, cipher, blockOf, blockNumber, encipherOf, decipherOf};
 ghost use Rattle.blocks.specs.Blocks.{blocksOfBoth, blocksPut};
-ghost use Rattle.blocks.specs.Fours.{eighteen, each, listed, fourAt, cipherBy, blockPut, allPut};
+ghost use Rattle.blocks.specs.Fours.{eighteen, each, listed, firstFour, cipherBy, blockPut, allPut};
 use blowfish::Block;
 
+// Four blocks side by side.
 struct Four {
     a: Block,
     b: Block,
@@ -22,16 +23,15 @@ fn block_at(s: &[u8], at: usize) -> Block
     blowfish::parted(bytes::numbers::number64(s, at))
 }
 
-// The four blocks from a place on. Those that s has no more are zeros.
-fn four_at(s: &[u8], at: usize) -> Four
-    requires { ⌜ at ≤ length (now s) ⌝ }
-    ensures { λ r. ⌜ r ≡ fourAt (now (s .entry)) at ⌝ }
+// The first four blocks of s; zeros where it has no more. At fixed places the test that each lies within s is one comparison.
+fn first_four(s: &[u8]) -> Four
+    ensures { λ r. ⌜ r ≡ firstFour (now (s .entry)) ⌝ }
 {
     Four {
-        a: block_at(s, at),
-        b: block_at(s, at + 8),
-        c: block_at(s, at + 16),
-        d: block_at(s, at + 24),
+        a: block_at(s, 0),
+        b: block_at(s, 8),
+        c: block_at(s, 16),
+        d: block_at(s, 24),
     }
 }
 
@@ -47,6 +47,7 @@ fn round_four(words: &[u32; 1042], p: u32, b: Four) -> Four
     }
 }
 
+// After the sixteen rounds: the four as numbers.
 fn finish_four(p17: u32, p18: u32, b: Four) -> [u64; 4]
     ensures { λ r. ⌜ r ≡ listed (λ x. blockNumber (finish p17 p18 x)) b ⌝ }
 {
@@ -81,7 +82,7 @@ fn cipher_four(words: &[u32; 1042], p: &[u32; 18], mut b: Four) -> [u64; 4]
     finish_four(p[16], p[17], b)
 }
 
-// The eight bytes of x put at a place: the compiler makes one store of these.
+// The eight bytes of x put at a place.
 fn put_block(out: &mut [u8], at: usize, x: u64)
     requires { ⌜ at + 8 ≤ length (now out) ⌝ }
     ensures { λ _. ⌜ now (out .exit) ≡ blockPut at x (now (out .entry)) ⌝ }
@@ -96,7 +97,7 @@ fn put_block(out: &mut [u8], at: usize, x: u64)
     out[at + 7] = (x % 256) as u8;
 }
 
-// The first n of four blocks put one after the other. In a loop: of 32 stores in a row the compiler makes 32.
+// The first n of four blocks put one after the other. In a loop the compiler makes one store of a block's eight; of 32 in a row it makes 32.
 fn put_blocks(out: &mut [u8], at: usize, blocks: &[u64; 4], n: usize)
     requires { ⌜ (n ≤ 4) × (at + 8 * n ≤ length (now out)) ⌝ }
     ensures { λ _. ⌜ now (out .exit) ≡ allPut (now (blocks .entry)) at n (now (out .entry)) ⌝ }
@@ -127,14 +128,14 @@ fn next_of(left: usize) -> usize
     if left < 4 { left } else { 4 }
 }
 
-// All the blocks, with the words of P in the order of p.
+// All the blocks, with the words of P in the order of p. A last four that is not whole is worked as one, and what is there is put.
 fn cipher_blocks(words: &[u32; 1042], p: &[u32; 18], s: &[u8], out: &mut [u8])
     ensures { λ _. ⌜ now (out .exit) ≡ blocksPut (cipherBy (now (words .entry)) (now (p .entry))) (now (s .entry)) (now (out .entry)) ⌝ }
 {
     let n = blocks_of_both(s, out);
     let mut i: usize = 0;
     while i < n {
-        let four = cipher_four(words, p, four_at(s, 8 * i));
+        let four = cipher_four(words, p, first_four(&s[8 * i..]));
         let k = next_of(n - i);
         put_blocks(out, 8 * i, &four, k);
         i += k;
@@ -193,10 +194,15 @@ fn far_p(words: &[u32; 1042]) -> [u32; 18]
     ]
 }
 
-// As many whole blocks of s as have room in out, enciphered each by itself.
+// As many whole blocks of s as have room in out, enciphered each by itself. A block alone goes alone: in a four it would wait for three that are not there.
 pub fn encipher_blocks(words: &[u32; 1042], s: &[u8], out: &mut [u8])
     ensures { λ _. ⌜ now (out .exit) ≡ blocksPut (encipherOf (now (words .entry))) (now (s .entry)) (now (out .entry)) ⌝ }
 {
+    if blocks_of_both(s, out) == 1 {
+        let block = bytes::numbers::number64(s, 0);
+        put_block(out, 0, blowfish::encipher(words, block));
+        return;
+    }
     let p = near_p(words);
     cipher_blocks(words, &p, s, out);
 }
@@ -205,6 +211,11 @@ pub fn encipher_blocks(words: &[u32; 1042], s: &[u8], out: &mut [u8])
 pub fn decipher_blocks(words: &[u32; 1042], s: &[u8], out: &mut [u8])
     ensures { λ _. ⌜ now (out .exit) ≡ blocksPut (decipherOf (now (words .entry))) (now (s .entry)) (now (out .entry)) ⌝ }
 {
+    if blocks_of_both(s, out) == 1 {
+        let block = bytes::numbers::number64(s, 0);
+        put_block(out, 0, blowfish::decipher(words, block));
+        return;
+    }
     let p = far_p(words);
     cipher_blocks(words, &p, s, out);
 }

@@ -35,6 +35,7 @@ pub struct Block {
     pub right: u32,
 }
 
+// The words of a block that is given as a number.
 pub fn parted(x: u64) -> Block
     ensures { λ r. ⌜ r ≡ blockOf x ⌝ }
 {

@@ -1,7 +1,6 @@
 -- `blocks::blocks_of_both` meets its contract.
 use borrow.Author.Tests.{lt-ltb, le-ltb}
 use lib.ListN.{length}
-use borrow.Author.Needs.{needs}
 use Rattle.blocks.proofs.blocks_of_both.Statement.{statement}
 use Rattle.blocks.proofs.blocks_of_both.Tie as tie
 

@@ -1,15 +1,12 @@
 -- `blocks::cipher_blocks` meets its contract. The invariant: the first i blocks are worked, and those after them are as they were.
-use mathlib.Core.Path.{_≡_, refl, ap, sym, _∙_}
-use mathlib.Core.List.{List}
-use Prim.Native.Nat.{ℕ, _+_, _-_, _*_, _≤_}
+use mathlib.Core.Path.{_≡_, refl, ap, _∙_}
+use Prim.Native.Nat.{_-_, _*_, _≤_}
 use native.Mathlib.Omega.{arith}
-use lib.ListN.{length, getD}
-use Rattle.blowfish.specs.Cipher.{F, P, cipher, blockNumber}
-use Rattle.blowfish.specs.declared.Block.{Block}
+use lib.ListN.{length}
 use Rattle.blocks.specs.Blocks.{blocksOfBoth, blocksPut}
-use Rattle.blocks.specs.Fours.{listed, fourAt, cipherBy, allPut}
-use Rattle.blocks.proofs.EachBlocks.{both-room, worked, worked-none, worked-length, worked-more}
-use Rattle.blocks.proofs.FourRounds.{four-numbers}
+use Rattle.blocks.specs.Fours.{cipherBy}
+use Rattle.blocks.proofs.EachBlocks.{both-room, worked, worked-none}
+use Rattle.blocks.proofs.Turns.{one-turn}
 use borrow.Author.Needs.{needs}
 use Rattle.blocks.proofs.cipher_blocks.Statement.{statement}
 use Rattle.blocks.proofs.cipher_blocks.Tie as tie
@@ -30,22 +27,13 @@ loop-holds c =
 loop-again : tie.Need-loop-again Inv-loop μ-loop
 loop-again c =
     let counted = c .before .before .before .before .before in
-    let four = counted .before .cipher-four in
-    let blocks = counted .before .before .four-at in
-    let begin = counted .before .before .before .before in
+    let read = counted .before .before in
+    let begin = read .before .before .before in
     let args = begin .before .before .before .before .before .args in
-    let w = args .words .now in
-    let p = args .p .now in
-    let s = args .s .now in
-    let i = begin .loop .i in
-    let k = counted .next-of .result in
-    let numbers = four .ensures ∙ ap (listed (λ (b : Block). blockNumber (cipher (F w) (P p) b))) (blocks .ensures) in
-    let all : c .before .before .put-blocks .last .0 ≡ worked (cipherBy w p) s (args .out .now) (i + k) =
-    c .before .before .put-blocks .ensures
-    ∙ ap (λ (xs : List ℕ). allPut xs (8 * i) k (begin .loop .out)) numbers
-    ∙ ap (allPut (listed (λ (b : Block). blockNumber (cipher (F w) (P p) b)) (fourAt s (8 * i))) (8 * i) k) (begin .loop .inv .4)
-    ∙ worked-more (cipherBy w p) s (args .out .now) i (listed (λ (b : Block). blockNumber (cipher (F w) (P p) b)) (fourAt s (8 * i))) (four-numbers w p s i) k (omega arith) in
-    (omega arith, search needs, search needs, ap length all ∙ worked-length (cipherBy w p) s (args .out .now) (i + k) (omega arith), all)
+    let turn =
+    one-turn (args .words .now) (args .p .now) (args .s .now) (args .out .now) (begin .loop .i) (counted .next-of .result) (omega arith) (omega arith) (omega arith)
+    (begin .loop .inv .4) (read .first-four .ensures) (counted .before .cipher-four .ensures) (c .before .before .put-blocks .ensures) in
+    (omega arith, search needs, search needs, turn .0, turn .1)
 
 same-length : tie.Need-same-length Inv-loop μ-loop
 same-length c = search needs
@@ -65,6 +53,9 @@ cipher-blocks-spec =
     μ-loop
     (λ c κs. search needs)
     loop-holds
+    (λ c. search needs)
+    (λ c. search needs)
+    (λ c. search needs)
     (λ c. search needs)
     (λ c κs. search needs)
     (λ c κs. search needs)

@@ -1,30 +1,50 @@
 -- `blocks::encipher_blocks` meets its contract.
-use mathlib.Core.Path.{ap, _∙_}
-use mathlib.Core.List.{List}
-use Prim.Native.Nat.{ℕ}
-use Rattle.blocks.specs.Blocks.{blocksPut}
-use Rattle.blocks.specs.Fours.{cipherBy}
-use Rattle.blocks.proofs.FourRounds.{near-enciphers}
+use mathlib.Core.Path.{_≡_, sym, _∙_}
+use native.Mathlib.Omega.{arith}
+use Rattle.blowfish.specs.Cipher.{encipherOf}
+use Rattle.blocks.specs.Blocks.{blocksOfBoth}
+use Rattle.blocks.proofs.EachBlocks.{both-room, one-alone}
+use Rattle.blocks.proofs.FourRounds.{near-put}
 use borrow.Author.Needs.{needs}
 use Rattle.blocks.proofs.encipher_blocks.Statement.{statement}
 use Rattle.blocks.proofs.encipher_blocks.Tie as tie
 
-near-p-requires : tie.Need-near-p-requires
-near-p-requires c κs = search needs
-
-cipher-blocks-requires : tie.Need-cipher-blocks-requires
-cipher-blocks-requires c κs = search needs
-
-same-length : tie.Need-same-length
-same-length c = search needs
+put-block-requires : tie.Need-put-block-requires
+put-block-requires c κs =
+    let chosen = c .before .before .before in
+    let args = chosen .before .before .before .before .before .args in
+    let alone : blocksOfBoth (args .s .now) (args .out .now) ≡ 1 = sym (chosen .before .blocks-of-both .ensures) ∙ chosen .if1 .taken in
+    omega (arith, both-room (args .s .now) (args .out .now) .1)
 
 returns : tie.Need-returns
 returns c =
+    let made = c .before .before .before in
+    let read = made .before .before in
+    let chosen = read .before in
+    let args = chosen .before .before .before .before .before .args in
+    one-alone (encipherOf (args .words .now)) (args .s .now) (args .out .now)
+    (sym (chosen .before .blocks-of-both .ensures) ∙ chosen .if1 .taken)
+    (read .number64 .ensures)
+    (made .encipher .ensures)
+    (c .before .before .put-block .ensures)
+
+returns-2 : tie.Need-returns-2
+returns-2 c =
     let chosen = c .before .before .before .before .before in
-    let args = chosen .before .before .before .args in
-    c .before .before .cipher-blocks .ensures
-    ∙ ap (λ (p : List ℕ). blocksPut (cipherBy (args .words .now) p) (args .s .now) (args .out .now)) (chosen .near-p .ensures)
-    ∙ ap (λ (f : ℕ → ℕ). blocksPut f (args .s .now) (args .out .now)) (near-enciphers (args .words .now))
+    let args = chosen .before .before .before .before .before .before .args in
+    near-put (args .words .now) (args .s .now) (args .out .now) (c .before .before .cipher-blocks .ensures) (chosen .near-p .ensures)
 
 pub encipher-blocks-spec : {M : Type 1} → statement M
-encipher-blocks-spec = tie.close (tie.spec near-p-requires cipher-blocks-requires same-length returns)
+encipher-blocks-spec =
+    tie.close
+    (tie.spec
+    (λ c κs. search needs)
+    (λ c κs. search needs)
+    (λ c κs. search needs)
+    put-block-requires
+    (λ c. search needs)
+    returns
+    (λ c κs. search needs)
+    (λ c κs. search needs)
+    (λ c. search needs)
+    returns-2)
