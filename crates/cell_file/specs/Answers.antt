@@ -18,6 +18,11 @@ abbrev pub partLent : PartOutput → List ℕ → List ℕ
 partLent (blocks t c) out = t ++ drop (length t) out
 partLent (refused n) out = out
 
+-- what the answer hands out; nothing where it is refused
+abbrev pub partDone : PartWritten → Part
+partDone (Done p) = p
+partDone (Refused n) = record { length = 0; carried = 0; count = 0 }
+
 -- the answer's number: 0 for done
 abbrev pub partNumber : PartWritten → ℕ
 partNumber (Done p) = 0

@@ -3,6 +3,7 @@ use mathlib.Core.List.{List, _++_}
 use Prim.Native.Nat.{ℕ}
 use lib.ListN.{length, drop}
 use Rattle.cell_opening.specs.Opening.{Opened, opened, refused}
+use Rattle.cell_opening.specs.declared.OpenedFile.{OpenedFile}
 use Rattle.cell_opening.specs.declared.CellFile.{CellFile}
 use Rattle.cell_opening.specs.declared.CellFile.the-variants as cell-file
 
@@ -15,6 +16,11 @@ fileAnswer (refused n) = cell-file.Refused n
 abbrev pub fileLent : Opened → List ℕ → List ℕ
 fileLent (opened key t) out = t ++ drop (length t) out
 fileLent (refused n) out = out
+
+-- what the answer hands out; nothing where it is refused
+abbrev pub fileOpened : CellFile → OpenedFile
+fileOpened (cell-file.Opened f) = f
+fileOpened (cell-file.Refused n) = record { length = 0; key = 0 }
 
 -- the answer's number: 0 for done
 abbrev pub fileNumber : CellFile → ℕ

@@ -1,5 +1,6 @@
 pub mod Blocks
 pub mod Permits
+pub mod Cells
 pub mod Files
 pub mod Lists
 pub mod Books

@@ -4,6 +4,7 @@ ghost use Rattle.crc32.specs.Crc32.{crc32Of};
 ghost use Rattle.lambukir.specs.Blocks.{encipherBlock, decipherBlock};
 
 pub mod books; // books.rt: the shared book
+pub mod cells; // cells.rt: cell files
 pub mod files; // files.rt: permit files
 pub mod lists; // lists.rt: product lists
 pub mod permits; // permits.rt: user permits and lines
@@ -20,7 +21,7 @@ pub struct Block {
 pub extern "C" fn lambukir_crc32(bytes: &[u8]) -> u32
     ensures { λ r. ⌜ r ≡ crc32Of (now (bytes .entry)) ⌝ }
 {
-    crc32::crc32(bytes)
+    crc32_long::crc32(bytes)
 }
 
 #[no_mangle]

@@ -158,6 +158,12 @@ spelled-requires-23 c κs = search needs
 spelled-requires-24 : tie.Need-spelled-requires-24
 spelled-requires-24 c κs = search needs
 
+slice-aggregate-spelled-25 : tie.Need-slice-aggregate-spelled-25
+slice-aggregate-spelled-25 c = search needs
+
+spelled-requires-25 : tie.Need-spelled-requires-25
+spelled-requires-25 c κs = search needs
+
 returns : tie.Need-returns
 unfolding meaningBy
 returns c = c .spelled .ensures ∙ ap meant (sym (c .before .before .match .keys1))
@@ -252,7 +258,11 @@ returns-23 c = c .spelled23 .ensures ∙ ap meant (sym (c .before .before .match
 
 returns-24 : tie.Need-returns-24
 unfolding meaningBy
-returns-24 c = c .spelled24 .ensures ∙ ap spelled (sym (all-missed _ rows _ (c .before .before .match .rest) .1))
+returns-24 c = c .spelled24 .ensures ∙ ap meant (sym (c .before .before .match .keys24))
+
+returns-25 : tie.Need-returns-25
+unfolding meaningBy
+returns-25 c = c .spelled25 .ensures ∙ ap spelled (sym (all-missed _ rows _ (c .before .before .match .rest) .1))
 
 pub meaning-spec : {M : Type 1} → statement M
 meaning-spec =
@@ -306,6 +316,8 @@ meaning-spec =
     spelled-requires-23
     slice-aggregate-spelled-24
     spelled-requires-24
+    slice-aggregate-spelled-25
+    spelled-requires-25
     returns
     returns-2
     returns-3
@@ -329,4 +341,5 @@ meaning-spec =
     returns-21
     returns-22
     returns-23
-    returns-24)
+    returns-24
+    returns-25)
