@@ -12,9 +12,9 @@
                    a tenant with 32 cells, and of one with all 512, whose branches ask an edition; a full book of version 1 is carried over
      list          a ship's cell against a product list of 20,000 rows, beside products.h's, which sorts the names; against one that was made to be
                    slow, beside ours in name order; and against one of 10 rows, see service.h
-     cell files    enciphering and opening 64 KiB and 16 MiB, the keys set up by each call, see charts.h; and the CRC-32 of 1 MiB
      look-through  the program beside bench/look_through.c, each a process of its own: from before its start until it has ended;
                    both load the C library and nothing else, since OpenSSL and zlib are linked into the C program
+     cell files    enciphering and opening 64 KiB and 16 MiB, the keys set up by each call, see charts.h; and the CRC-32 of 1 MiB
 
    Every answer goes into a sum that is looked at in the end. */
 #define _DEFAULT_SOURCE
@@ -147,6 +147,13 @@ int main(void)
     measure("list, shuffled", our_shuffled, their_shuffled, "plain C", 1);
     measure("list of 10 rows", our_few, their_few, "plain C", 200);
     measure_slow();
+    put_look_through(65000, false);
+    measure("look-through 65000", our_look_through, their_look_through, "plain C", 1);
+    put_look_through(65000, true);
+    measure("  in small letters", our_look_through, their_look_through, "plain C", 1);
+    put_look_through(0, false);
+    measure("look-through start", our_look_through, their_look_through, "plain C", 1);
+    /* the last, since a program with so much memory takes longer to start the look-through */
     if (!make_charts()) {
         puts("the cell files differ: no more is measured");
         return 1;
@@ -158,12 +165,6 @@ int main(void)
     measure_long("  by blocks", our_chart_blocks, their_chart_blocks, "OpenSSL", CHART_ROUNDS);
     measure_long("open 16 MiB", our_opened, their_opened, "OpenSSL", CHART_ROUNDS);
     measure("CRC-32 of 1 MiB", our_long_crc32, their_long_crc32, "zlib", 1);
-    put_look_through(65000, false);
-    measure("look-through 65000", our_look_through, their_look_through, "plain C", 1);
-    put_look_through(65000, true);
-    measure("  in small letters", our_look_through, their_look_through, "plain C", 1);
-    put_look_through(0, false);
-    measure("look-through start", our_look_through, their_look_through, "plain C", 1);
     printf("sum of the answers %016llX\n", (unsigned long long)sum);
     return 0;
 }
