@@ -24,7 +24,7 @@ const TOP: u64 = 0x8080_8080_8080_8080;
 const PAST_CR: u64 = 0x0e0e_0e0e_0e0e_0e0e;
 
 // Whether the eight bytes of x are surely all beyond CR, as printed characters are: 14 taken from each leaves no top bit, and borrows nothing.
-fn are_past_cr(x: u64) -> bool
+pub fn are_past_cr(x: u64) -> bool
     ensures { λ r. ⌜ (r ≡ true → allOf (ltb 13) (bytesOf 8 x) ≡ true) ⌝ }
 {
     wrapping_sub_u64(x, PAST_CR) & TOP == 0

@@ -1,0 +1,4 @@
+pub mod Texts
+pub mod Mailed
+pub mod Saying
+pub mod Putting
