@@ -2,3 +2,4 @@ pub mod NextLines
 pub mod Steps
 pub mod Headers
 pub mod EitherCases
+pub mod Answers

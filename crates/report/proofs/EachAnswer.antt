@@ -15,7 +15,7 @@ use Rattle.permit_file.specs.File.{cursor, stepBy, onward}
 use Rattle.permit_file.specs.declared.Cursor.{Cursor}
 use Rattle.permit_file.specs.declared.Step.{Step}
 use Rattle.permit_file.specs.declared.Step.the-variants.{Record, Refused, End}
-use Rattle.report.specs.LookThrough.{following, answersFrom}
+use Rattle.permit_file.specs.Answers.{following, answersFrom}
 
 -- it holds of a step's answer; the end has none
 abbrev pub OfStep : (Line → Type 0) → Step → Type 0

@@ -22,7 +22,8 @@ use Rattle.permit_file.specs.EitherCase.{CaseAloneAt}
 use Rattle.permit_file.specs.declared.Step.{Step}
 use Rattle.permit_file.specs.declared.Step.the-variants as step
 use Rattle.permit_file.proofs.EitherCases.{open-either-case, steps-alike}
-use Rattle.report.specs.LookThrough.{isFirstLine, hwOf, todayOf, daysOf, fileOf, startNumber, following, answersFrom, encAnswers, answersOf, report}
+use Rattle.permit_file.specs.Answers.{following, answersFrom, encAnswers}
+use Rattle.report.specs.LookThrough.{isFirstLine, hwOf, todayOf, daysOf, fileOf, startNumber, answersOf, report}
 use Rattle.report.specs.EitherCase.{readFor, placeOf, InputCaseAlone, ReportEitherCase}
 
 -- what follows a step goes by the next place alone

@@ -18,7 +18,8 @@ use Rattle.cell_permit.specs.declared.Line.the-variants as line
 use Rattle.cell_permit.specs.declared.Record.{Record}
 use Rattle.cell_permit.proofs.ServiceLevels.{own-notice}
 use Rattle.permit_file.specs.File.{firstPlace}
-use Rattle.report.specs.LookThrough.{hwOf, todayOf, daysOf, fileOf, encAnswers, answersOf, isNoticed}
+use Rattle.permit_file.specs.Answers.{encAnswers}
+use Rattle.report.specs.LookThrough.{hwOf, todayOf, daysOf, fileOf, answersOf, isNoticed}
 use Rattle.report.specs.ServiceLevel.{hasLevel, AllAre, CountedByLevel}
 use Rattle.report.proofs.EachAnswer.{of-answers, same-counts}
 

@@ -1,4 +1,3 @@
-pub mod Answers
 pub mod EachAnswer
 pub mod LineEnds
 pub mod Room

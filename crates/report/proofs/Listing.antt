@@ -12,10 +12,11 @@ use Rattle.cell_permit.specs.declared.Line.the-variants as line
 use Rattle.permit_file.specs.File.{stepBy, firstPlace}
 use Rattle.permit_file.specs.declared.Step.{Step}
 use Rattle.permit_file.specs.declared.Step.the-variants.{Record, Refused, End}
-use Rattle.report.specs.LookThrough.{following, encAnswers, rowOf, rowsFrom, lineEndsIn}
+use Rattle.permit_file.specs.Answers.{following, encAnswers}
+use Rattle.report.specs.LookThrough.{rowOf, rowsFrom, lineEndsIn}
 use Rattle.report.specs.Turns.{Few, tallyOf, counted, movedTo, turned, rowPut}
 use Rattle.report.specs.declared.rows.Tally.{Tally}
-use Rattle.report.proofs.Answers.{rest, rises, all-answers, rest-step, rest-none}
+use Rattle.permit_file.proofs.Answers.{rest, rises, all-answers, rest-step, rest-none}
 use Rattle.report.proofs.Room.{Short, rows-room, all-few, few-tally}
 use Rattle.report.proofs.OneMore.{rows-append, rows-more, tally-more}
 

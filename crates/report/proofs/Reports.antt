@@ -19,7 +19,8 @@ use Rattle.cell_permit.specs.Line.{readWith, givenNumber}
 use Rattle.cell_permit.proofs.LineNumbers.{two-digits}
 use Rattle.permit_file.specs.File.{isHeader, openOf, openNumber, firstPlace}
 use Rattle.permit_file.proofs.Headers.{header-within}
-use Rattle.report.specs.LookThrough.{isFirstLine, hwOf, todayOf, daysOf, fileOf, startNumber, answersOf, encAnswers, rowsFrom, totalsOf, refusedText, report, lineEndsIn, roomFor, reported}
+use Rattle.permit_file.specs.Answers.{encAnswers}
+use Rattle.report.specs.LookThrough.{isFirstLine, hwOf, todayOf, daysOf, fileOf, startNumber, answersOf, rowsFrom, totalsOf, refusedText, report, lineEndsIn, roomFor, reported}
 use Rattle.report.specs.Turns.{Few, tallyOf, lastField, totalsEnd, totalsText}
 use Rattle.report.specs.declared.rows.Tally.{Tally}
 use Rattle.report.proofs.LineEnds.{fewer-after}

@@ -23,10 +23,11 @@ use Rattle.permit_file.specs.File.{cursor, stepBy, onward, firstPlace, isEnd, n
 use Rattle.permit_file.specs.declared.Cursor.{Cursor}
 use Rattle.permit_file.specs.declared.Step.{Step}
 use Rattle.permit_file.specs.declared.Step.the-variants.{Record, Refused, End}
-use Rattle.report.specs.LookThrough.{following, answersFrom, encAnswers, nameShown, isNoticed, isRefused, rowOf, rowsFrom, lineEndsIn, roomFor}
-use Rattle.report.specs.Enough.{RoomEnough}
+use Rattle.permit_file.specs.Answers.{following, answersFrom, encAnswers}
+use Rattle.report.specs.LookThrough.{nameShown, isNoticed, isRefused, rowOf, rowsFrom, lineEndsIn, roomFor}
+use Rattle.report.specs.Enough.{EveryLine, RoomEnough}
 use Rattle.report.specs.Turns.{Few, rowEnd, tallyOf}
-use Rattle.report.proofs.Answers.{rises, enough}
+use Rattle.permit_file.proofs.Answers.{rises, enough}
 use Rattle.report.proofs.EachAnswer.{OfStep, of-step}
 use Rattle.report.proofs.LineEnds.{fewer-after, line-passed, two-bytes-each}
 
@@ -171,3 +172,8 @@ room-enough input =
     either (leb (length input) 65536)
     (λ short. rw short (omega (arith, two-bytes-each input, leb-true (length input) 65536 short)))
     (λ long. rw long (omega arith))
+
+pub every-line : EveryLine
+unfolding encAnswers
+every-line read file more within =
+    enough read file (length file + more) (length file) firstPlace within (omega arith) (omega arith)

@@ -5,7 +5,8 @@ use Prim.Native.Nat.{ℕ, _+_, _≤_}
 use lib.ListN.{length}
 use Rattle.cell_permit.specs.declared.Line.{Line}
 use Rattle.permit_file.specs.File.{firstPlace}
-use Rattle.report.specs.LookThrough.{answersFrom, encAnswers, roomFor}
+use Rattle.permit_file.specs.Answers.{answersFrom, encAnswers}
+use Rattle.report.specs.LookThrough.{roomFor}
 
 -- however many lines more were allowed, the answers are the same: every ENC line has its answer
 abbrev pub EveryLine : Type 0

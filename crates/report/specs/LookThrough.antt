@@ -1,7 +1,7 @@
 -- What the look-through program prints for what it reads.
 use mathlib.Core.Bool.{Bool, true, false, cond, _&&_}
 use mathlib.Core.List.{List, [], _∷_, _++_}
-use Prim.Native.Nat.{ℕ, zero, suc, _+_, _*_}
+use Prim.Native.Nat.{ℕ, suc, _+_, _*_}
 use lib.Dec.{leb, eqb}
 use lib.ListN.{length, getD, drop}
 use Rattle.bytes.specs.Every.{countOf}
@@ -17,9 +17,8 @@ use Rattle.cell_permit.specs.Line.{readWith, givenNumber, lineNumber}
 use Rattle.cell_permit.specs.declared.Line.{Line}
 use Rattle.cell_permit.specs.declared.Line.the-variants as line
 use Rattle.file_lines.specs.Lines.{isLineEnd}
-use Rattle.permit_file.specs.File.{stepBy, firstPlace, openOf, openNumber}
-use Rattle.permit_file.specs.declared.Step.{Step}
-use Rattle.permit_file.specs.declared.Step.the-variants as step
+use Rattle.permit_file.specs.File.{openOf, openNumber}
+use Rattle.permit_file.specs.Answers.{encAnswers}
 
 -- the first line, read by position: five bytes, a blank, eight bytes, a blank, two digits, CR LF
 unfoldable pub isFirstLine : List ℕ → Bool
@@ -53,21 +52,6 @@ startNumber input =
     (demand (isFirstLine input) 103
     (orElse (givenNumber (hwOf input) (todayOf input) (daysOf input))
     (openNumber (openOf (fileOf input)))))
-
--- what follows a step: its answer and the answers from the next place on, or nothing
-abbrev pub following : (ℕ → List Line) → Step → List Line
-following from (step.Record r c) = line.Record r ∷ from (c .place)
-following from (step.Refused n c) = line.Refused n ∷ from (c .place)
-following from (step.End c) = []
-
--- the answers of the lines from a place on, n lines at most
-unfoldable pub answersFrom : (List ℕ → Line) → List ℕ → ℕ → ℕ → List Line
-answersFrom read file zero place = []
-answersFrom read file (suc n) place = following (answersFrom read file n) (stepBy read file place)
-
--- the answers of the ENC lines: a file has no more lines than bytes
-unfoldable pub encAnswers : (List ℕ → Line) → List ℕ → List Line
-encAnswers read file = answersFrom read file (length file) firstPlace
 
 -- the answers for an input
 unfoldable pub answersOf : List ℕ → List Line

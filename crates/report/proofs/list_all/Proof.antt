@@ -11,7 +11,8 @@ use Rattle.text.specs.Texts.{placed}
 use Rattle.cell_permit.specs.CellPermit.{shipWords}
 use Rattle.cell_permit.specs.Line.{readWith}
 use Rattle.cell_permit.specs.declared.Line.{Line}
-use Rattle.report.specs.LookThrough.{fileOf, encAnswers, answersOf, rowsFrom, lineEndsIn}
+use Rattle.permit_file.specs.Answers.{encAnswers}
+use Rattle.report.specs.LookThrough.{fileOf, answersOf, rowsFrom, lineEndsIn}
 use Rattle.report.specs.Turns.{tallyOf}
 use Rattle.report.proofs.Starts.{first-within}
 use Rattle.report.proofs.Reports.{size, shape, file-within, same-answers, rows-and-totals, totals-fit, report-put}
