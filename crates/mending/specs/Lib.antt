@@ -1,3 +1,6 @@
 pub mod Mending
 pub mod Answers
 pub mod Program
+pub mod Again
+pub mod ReadAgain
+pub mod Unsaid
