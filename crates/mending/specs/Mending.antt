@@ -70,7 +70,10 @@ givesOf count text (next ∷ rest) = givesBy (fateOf (unblanked (lineOf text))) 
 
 -- what a line gives, and then what those after it give, where they are looked at
 abbrev pub followed : Gives → Mended → Mended
-followed g m = record { file = g .file ++ cond (g .more) (m .file) []; list = g .list ++ cond (g .more) (m .list) [] }
+followed g m =
+    cond (g .more)
+    (record { file = g .file ++ m .file; list = g .list ++ m .list })
+    (record { file = g .file; list = g .list })
 
 -- nothing
 abbrev pub nothing : Mended
