@@ -70,11 +70,12 @@ first-text (c ∷ d ∷ s) h =
 
 module _ (l : List ℕ) (s : List ℕ) where
   -- more texts follow the first
-  enc-more : sameText l ecs ≡ false → (encLines (l ∷ linesOf s) ≡ l ∷ encLines (linesOf s)) × (isClosed (l ∷ linesOf s) ≡ isClosed (linesOf s))
+  pub enc-more : sameText l ecs ≡ false → (encLines (l ∷ linesOf s) ≡ l ∷ encLines (linesOf s)) × (isClosed (l ∷ linesOf s) ≡ isClosed (linesOf s))
   unfolding encLines isClosed
   enc-more other = (rw (never-empty s, other), rw (never-empty s, other))
 
-  enc-none : sameText l ecs ≡ true → (encLines (l ∷ linesOf s) ≡ []) × (isClosed (l ∷ linesOf s) ≡ true)
+  -- none does after :ECS
+  pub enc-none : sameText l ecs ≡ true → (encLines (l ∷ linesOf s) ≡ []) × (isClosed (l ∷ linesOf s) ≡ true)
   unfolding encLines isClosed
   enc-none same = (rw (never-empty s, same), rw (never-empty s, same))
 

@@ -3,47 +3,24 @@
 use mathlib.Core.Path.{_≡_, refl, sym, ap, _∙_}
 use mathlib.Core.Bool.{true}
 use mathlib.Core.List.{List, [], _∷_}
-use Prim.Native.Nat.{ℕ, _+_, _≤_, _<_}
+use Prim.Native.Nat.{ℕ, _+_}
 use native.Mathlib.Omega.{arith}
-use lib.ListN.{length, getD, take, drop}
+use lib.Dec.{leb}
+use lib.ListN.{length, getD, drop}
 use lib.Seq.{take-all}
 use Rattle.bytes.proofs.Every.{same-tests}
 use Rattle.text.specs.Characters.{raisedText}
-use Rattle.text.specs.Texts.{part, sameText, allAt}
+use Rattle.text.specs.Texts.{sameText}
 use Rattle.text.proofs.Raising.{low-raised, raised-at, drop-raised, same-length}
 use Rattle.text.proofs.SameTexts.{same-true, same-refl}
-use Rattle.text.proofs.TextsAt.{same-within, same-byte}
-use Rattle.forms.specs.DateText.{isDateAt}
 use Rattle.cell_permit.specs.CellPermit.{shipWords}
 use Rattle.cell_permit.specs.EitherCase.{CaseAlone}
 use Rattle.cell_permit.specs.Line.{readWith}
 use Rattle.cell_permit.proofs.EitherCases.{one-size, read-either-case, ship-either-case}
 use Rattle.file_lines.specs.Lines.{lineLength, lineEnds, lineAt, ecs, endsAt}
-use Rattle.file_lines.specs.Dated.{isBelow, isDated}
-use Rattle.permit_file.specs.File.{isHeader, firstPlace, openOf, stepBy, stepOf}
+use Rattle.permit_file.specs.File.{firstPlace, openOf, stepBy, stepOf}
 use Rattle.permit_file.specs.EitherCase.{CaseAloneAt, OpenEitherCase, StepsAlike, StepEitherCase}
-
--- the header stands in the first 40 bytes
-module _ (f g : List ℕ) (size : length f ≡ length g) (same : take firstPlace f ≡ take firstPlace g) where
-  among : (n at : ℕ) → at + n ≤ 40 → part n f at ≡ part n g at
-  among = same-within firstPlace f g same
-
-  byte-among : (k : ℕ) → k < 40 → getD f k 0 ≡ getD g k 0
-  byte-among = same-byte firstPlace f g same
-
-  header-alike : isHeader f ≡ isHeader g
-  unfolding isHeader isDated isBelow isDateAt allAt
-  header-alike =
-      rw (
-        size,
-        among 6 0 (omega arith),
-        among 8 6 (omega arith),
-        byte-among 14 (omega arith),
-        among 2 15 (omega arith),
-        byte-among 17 (omega arith),
-        among 2 18 (omega arith),
-        among 20 20 (omega arith),
-      )
+use Rattle.permit_file.proofs.Headers.{header-alike}
 
 -- CR and LF are no letters
 raised-line : (s : List ℕ) → lineLength (raisedText s) ≡ lineLength s
@@ -89,7 +66,7 @@ module _ (file other : List ℕ) (place : ℕ) (alone : CaseAloneAt file other p
 pub open-either-case : OpenEitherCase
 unfolding openOf
 open-either-case file other header alone =
-    rw (header-alike file other (one-length file other firstPlace alone) header, ends-alike file other firstPlace alone)
+    rw (header-alike file other header (λ n h. ap (leb n) (one-length file other firstPlace alone)), ends-alike file other firstPlace alone)
 
 pub steps-alike : StepsAlike
 unfolding stepBy
