@@ -153,7 +153,7 @@ module _ (one two three : List ℕ) (next : List ℕ) (rest : List (List ℕ)) w
         ∙ rw (header-again 1 one, header-again 2 two, header-again 3 three, stays-from 4 4 next rest (none .1 .1 .1), header-lines)
 
 -- three header lines that LF ends, and what follows them
-pub record Headed (texts : List (List ℕ)) : Type 0 where
+record Headed (texts : List (List ℕ)) : Type 0 where
   pub one : List ℕ
   pub two : List ℕ
   pub three : List ℕ
@@ -165,7 +165,7 @@ pub record Headed (texts : List (List ℕ)) : Type 0 where
 nothing-good : isHeader [] ≡ true → ⊥
 nothing-good good = omega (arith, header-within [] good)
 
-pub has-header : (texts : List (List ℕ)) → isHeader (mendedTexts texts .file) ≡ true → Headed texts
+has-header : (texts : List (List ℕ)) → isHeader (mendedTexts texts .file) ≡ true → Headed texts
 unfolding mendedTexts
 has-header [] good = absurd (nothing-good good)
 has-header (one ∷ []) good = absurd (nothing-good good)
@@ -174,16 +174,28 @@ has-header (one ∷ two ∷ three ∷ []) good = absurd (nothing-good good)
 has-header (one ∷ two ∷ three ∷ next ∷ rest) good = record { one = one; two = two; three = three; next = next; rest = rest; whole = refl }
 
 module _ (file : List ℕ) (good : isMended file ≡ true) where
-  pub file-headed : Headed (textsOf file)
+  file-headed : Headed (textsOf file)
   unfolding isMended mendedOf
   file-headed = has-header (textsOf file) good
+
+  -- what holds of every such header and texts holds of the file's
+  pub for-headed
+      : (P : List (List ℕ) → Type 0)
+      → ((one two three next : List ℕ) (rest : List (List ℕ)) → AllWithout (one ∷ two ∷ three ∷ next ∷ rest)
+      → isHeader (mendedTexts (one ∷ two ∷ three ∷ next ∷ rest) .file) ≡ true → P (one ∷ two ∷ three ∷ next ∷ rest))
+      → P (textsOf file)
+  unfolding isMended mendedOf
+  for-headed P all =
+      let h = file-headed in
+      subst P (sym (h .whole))
+      (all (h .one) (h .two) (h .three) (h .next) (h .rest) (subst AllWithout (h .whole) (texts-without file))
+      (sym (ap (λ (l : List (List ℕ)). isHeader (mendedTexts l .file)) (h .whole)) ∙ good))
 
   stays : mendedOf (mendedOf file .file) ≡ clean (mendedOf file .file)
   unfolding mendedOf
   stays =
-      let h = file-headed in
-      let none : AllWithout (h .one ∷ h .two ∷ h .three ∷ h .next ∷ h .rest) = subst AllWithout (h .whole) (texts-without file) in
-      rw (h .whole) (texts-stay (h .one) (h .two) (h .three) (h .next) (h .rest) none)
+      for-headed (λ (texts : List (List ℕ)). mendedTexts (textsOf (mendedTexts texts .file)) ≡ clean (mendedTexts texts .file))
+      (λ one two three next rest none head. texts-stay one two three next rest none)
 
 pub mended-stays : MendedStays
 unfolding isMended
@@ -257,10 +269,8 @@ listed-exactly file good = (unchanged, unlisted)
   where
     unchanged : mendedOf file .list ≡ [] → mendedOf file .file ≡ file
     unchanged none =
-        let h = file-headed file good in
-        ap (λ (l : List (List ℕ)). mendedTexts l .file) (h .whole)
-        ∙ same-texts (h .one) (h .two) (h .three) (h .next) (h .rest) (sym (ap (λ (l : List (List ℕ)). mendedTexts l .list) (h .whole)) ∙ none)
-        ∙ sym (ap joined (h .whole))
+        for-headed file good (λ (texts : List (List ℕ)). mendedTexts texts .list ≡ [] → mendedTexts texts .file ≡ joined texts)
+        (λ one two three next rest no-lf head. same-texts one two three next rest) none
         ∙ joined-texts file
 
     unlisted : mendedOf file .file ≡ file → mendedOf file .list ≡ []

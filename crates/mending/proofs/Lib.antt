@@ -1,1 +1,4 @@
 pub mod Again
+pub mod GoodHeaders
+pub mod ReadAgain
+pub mod Unsaid
