@@ -6,11 +6,14 @@ use mathlib.Core.List.{List}
 use Prim.Native.Nat.{ℕ, _≤_}
 use native.Mathlib.Omega.{arith}
 use lib.ListN.{length, length-map}
+use lib.Seq.{take-all}
 use Rattle.bytes.proofs.Every.{either}
 use Rattle.text.specs.Characters.{raised, raisedText, isHex}
+use Rattle.text.specs.Texts.{sameText, standsAt}
 use Rattle.text.proofs.SameTexts.{same-true}
 use Rattle.text.proofs.TextsAt.{all-within}
-use Rattle.cell_permit.specs.Line.{isLine}
+use Rattle.cell_permit.specs.Line.{isLine, commentPlace, commentAt}
+use Rattle.cell_permit.specs.declared.CommentPlace.the-variants.{At, None}
 use Rattle.cell_permit.proofs.GoodLine.{good-line}
 use Rattle.file_lines.specs.Lines.{ecs}
 use Rattle.mailed_lines.specs.Mailed.{isEcs, fateOf}
@@ -33,6 +36,14 @@ out-made true b made = (cc, cc)
 out-made false true made = (refl, cc)
 out-made false false made = (refl, refl)
 
+at-made : (t : Bool) (n m : ℕ) → cond t (At n) None ≡ At m → t ≡ true
+at-made true n m made = refl
+at-made false n m made = cc
+
+none-made : (t : Bool) (n : ℕ) → cond t (At n) None ≡ None → t ≡ false
+none-made true n made = cc
+none-made false n made = refl
+
 module _ (line : List ℕ) where
   -- :ECS, raised, is :ECS in capitals
   pub ecs-raised : isEcs line ≡ true → raisedText line ≡ ecs
@@ -42,6 +53,26 @@ module _ (line : List ℕ) where
   -- and has four bytes
   pub ecs-size : isEcs line ≡ true → length line ≡ 4
   ecs-size is = sym (length-map line raised) ∙ ap length (ecs-raised is)
+
+  -- what has another size is none
+  pub other-size : (length line ≡ 4 → ⊥) → isEcs line ≡ false
+  other-size other = either (isEcs line) (λ is. absurd (other (ecs-size is))) (λ differ. differ)
+
+  -- of four bytes that are the line's, raised, :ECS stands at the start where the line is :ECS
+  pub ecs-stands : (after : List ℕ) → length line ≡ 4 → after ≡ raisedText line → standsAt ecs after 0 ≡ isEcs line
+  unfolding isEcs
+  ecs-stands after four is =
+      let all : length after ≤ 4 = omega (arith, ap length is ∙ length-map line raised) in
+      ap (λ (l : List ℕ). sameText l ecs) (take-all 4 after all ∙ is)
+
+  -- a comment begins somewhere exactly where the line has its shape
+  pub comment-shape : (at : ℕ) → commentAt line ≡ At at → isLine line ≡ true
+  unfolding commentAt
+  comment-shape at made = at-made (isLine line) (commentPlace line) at made
+
+  pub no-comment-shape : commentAt line ≡ None → isLine line ≡ false
+  unfolding commentAt
+  no-comment-shape made = none-made (isLine line) (commentPlace line) made
 
   -- what each fate says of the line
   pub kept-is : fateOf line ≡ Kept → (isLine line ≡ true) × (isEcs line ≡ false)
