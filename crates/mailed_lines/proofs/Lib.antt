@@ -5,3 +5,4 @@ pub mod Lengths
 pub mod Fates
 pub mod SaidTexts
 pub mod Puts
+pub mod PutLines

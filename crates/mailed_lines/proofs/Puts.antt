@@ -55,3 +55,17 @@ module _ (at : ℕ) (t u out : List ℕ) (takes : Takes at (t ++ u) out) where
     omega (arith, first .0, next .0, length-append t u),
     next .1 ∙ ap (placed n u) (first .1) ∙ placed-both n (first .0),
   )
+
+-- and three of them
+module _ (at : ℕ) (t u v out : List ℕ) (takes : Takes at (t ++ (u ++ v)) out) (n : ℕ) (out1 : List ℕ) (first : Put at t out n out1) where
+  pub takes-second : Takes n u out1
+  takes-second = takes-first n u v out1 (takes-next at t (u ++ v) out takes n out1 first)
+
+  module _ (m : ℕ) (out2 : List ℕ) (second : Put n u out1 m out2) where
+    pub takes-third : Takes m v out2
+    takes-third = takes-next n u v out1 (takes-next at t (u ++ v) out takes n out1 first) m out2 second
+
+    pub put-three : (k : ℕ) (out3 : List ℕ) → Put m v out2 k out3 → Put at (t ++ (u ++ v)) out k out3
+    put-three k out3 third =
+        put-both at t (u ++ v) out takes n k out1 out3 first
+        (put-both n u v out1 (takes-next at t (u ++ v) out takes n out1 first) m k out2 out3 second third)
