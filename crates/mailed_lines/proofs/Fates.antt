@@ -17,7 +17,6 @@ use Rattle.cell_permit.specs.declared.CommentPlace.the-variants.{At, None}
 use Rattle.cell_permit.proofs.GoodLine.{good-line}
 use Rattle.file_lines.specs.Lines.{ecs}
 use Rattle.mailed_lines.specs.Mailed.{isEcs, fateOf}
-use Rattle.mailed_lines.specs.declared.Fate.{Fate}
 use Rattle.mailed_lines.specs.declared.Fate.the-variants.{Kept, Last, Out}
 
 -- the tests by which a fate is found

@@ -1,19 +1,19 @@
 -- The bytes of a line: a text less the CR at its end, less the blanks at its end, raised.
 -- Assumes nothing.
 use mathlib.Core.Path.{_≡_, refl, sym, ap, ap₂, _∙_}
-use mathlib.Core.Bool.{Bool, true, false, not, cond, _&&_}
+use mathlib.Core.Bool.{Bool, true, false, not}
 use mathlib.Core.List.{List, [], _∷_, _++_}
-use Prim.Native.Nat.{ℕ, zero, suc, _+_, _-_, _≤_, _<_}
+use Prim.Native.Nat.{ℕ, zero, suc, _+_, _-_, _≤_}
 use native.Mathlib.Omega.{arith}
 use borrow.Author.Tests.{eqb-true, eq-eqb, lt-leb, ne-eqb}
 use lib.Dec.{eqb}
 use lib.ListN.{length, take, length-take, length-append}
 use lib.Seq.{take-length}
 use Rattle.bytes.specs.Every.{allOf}
-use Rattle.bytes.proofs.Every.{either, same-tests, never-both, all-first, all-rest, all-more}
+use Rattle.bytes.proofs.Every.{either, same-tests, all-first, all-rest, all-more}
 use Rattle.text.specs.Characters.{between, raised, raisedText}
 use Rattle.text.specs.Texts.{sameText}
-use Rattle.text.proofs.Notations.{between-low, between-high}
+use Rattle.text.proofs.Notations.{between-high}
 use Rattle.text.proofs.Raising.{low-raised}
 use Rattle.text.proofs.SameTexts.{same-true, same-refl}
 use Rattle.mailed_lines.specs.Mailed.{endsInCr, lineOf, beforeRest, unblanked}

@@ -2,10 +2,9 @@
 -- Assumes nothing.
 use mathlib.Core.Path.{_≡_, refl, sym, ap, _∙_}
 use mathlib.Core.Bool.{Bool, true, false}
-use mathlib.Core.List.{List, [], _++_, append-assoc}
+use mathlib.Core.List.{List, _++_, append-assoc}
 use Prim.Native.Nat.{ℕ, _+_}
-use native.Mathlib.Omega.{arith}
-use lib.ListN.{length}
+use lib.ListN.{length, length-append}
 use Rattle.text.specs.Ascii.{ascii}
 use Rattle.text.specs.Characters.{decimalText}
 use Rattle.text.specs.Texts.{width, numeral, placed}
@@ -50,6 +49,10 @@ casePut case n = countedIf case n (ascii " CASE\n")
 pub faults-put : (eol blank case : Bool) (n : ℕ) → faultsSaid eol blank case n ≡ eolPut eol n ++ (blankPut blank n ++ casePut case n)
 unfolding faultsSaid saidIf said countedIf
 faults-put eol blank case n = refl
+
+-- its first part's length
+pub counted-length : (n : ℕ) → length (numeral n ++ ascii " OUT ") ≡ width n + 5
+counted-length n = length-append (numeral n) (ascii " OUT ") ∙ ap (λ (k : ℕ). k + 5) (numeral-length n)
 
 -- a line left out: its count and OUT, its bytes, LF
 pub out-put : (n : ℕ) (line : List ℕ) → outSaid n line ≡ (numeral n ++ ascii " OUT ") ++ (line ++ ascii "\n")

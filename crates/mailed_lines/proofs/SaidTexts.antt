@@ -7,7 +7,7 @@ use Prim.Native.Nat.{ℕ, _+_, _*_, _≤_}
 use native.Mathlib.Omega.{arith}
 use lib.ListN.{length, length-append}
 use Rattle.text.specs.Ascii.{ascii}
-use Rattle.text.specs.Texts.{width, numeral}
+use Rattle.text.specs.Texts.{width}
 use Rattle.text.proofs.Numerals.{numeral-length}
 use Rattle.mailed_lines.specs.Saying.{said, saidIf, faultsSaid, outSaid}
 

@@ -1,6 +1,5 @@
 -- `mailed_lines::saying::put_counted` meets its contract: the count, and what follows it.
 -- Assumes nothing.
-use mathlib.Core.Path.{_≡_}
 use Prim.Native.Nat.{_+_}
 use native.Mathlib.Omega.{arith}
 use borrow.Author.Needs.{needs}
