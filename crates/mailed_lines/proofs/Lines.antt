@@ -77,17 +77,6 @@ no-cr-shown t =
     rw (cr, ne-eqb (length (lineOf t)) (length t) (λ e. omega (arith, ap length (line-and-cr t cr) ∙ length-append (lineOf t) (13 ∷ [])))))
     (λ none. rw (none, eq-eqb (length (lineOf t)) (length t) (ap length (line-whole t none))))
 
--- blanks that are gone are gone
-before-stays : (c : ℕ) (r : List ℕ) → unblanked r ≡ r → unblanked (beforeRest c r) ≡ beforeRest c r
-unfolding unblanked beforeRest
-before-stays c [] e = either (eqb c 32) (λ blank. rw blank) (λ other. rw (other, other))
-before-stays c (d ∷ r) e = rw e
-
-pub unblanked-stays : (s : List ℕ) → unblanked (unblanked s) ≡ unblanked s
-unfolding unblanked
-unblanked-stays [] = refl
-unblanked-stays (c ∷ s) = before-stays c (unblanked s) (unblanked-stays s)
-
 -- what is left is what the line begins with
 before-start : (c : ℕ) (s r : List ℕ) → take (length r) s ≡ r → take (length (beforeRest c r)) (c ∷ s) ≡ beforeRest c r
 unfolding beforeRest
@@ -105,6 +94,17 @@ unblanked-short s = start-short (unblanked s) s (unblanked-start s)
 -- a line has no blanks at its end where it is as long without them
 pub no-blank-shown : (s : List ℕ) → sameText (unblanked s) s ≡ eqb (length (unblanked s)) (length s)
 no-blank-shown s = start-same (unblanked s) s (unblanked-start s)
+
+-- blanks that are gone are gone
+before-stays : (c : ℕ) (r : List ℕ) → unblanked r ≡ r → unblanked (beforeRest c r) ≡ beforeRest c r
+unfolding unblanked beforeRest
+before-stays c [] e = either (eqb c 32) (λ blank. rw blank) (λ other. rw (other, other))
+before-stays c (d ∷ r) e = rw e
+
+pub unblanked-stays : (s : List ℕ) → unblanked (unblanked s) ≡ unblanked s
+unfolding unblanked
+unblanked-stays [] = refl
+unblanked-stays (c ∷ s) = before-stays c (unblanked s) (unblanked-stays s)
 
 -- raising: once is enough
 raised-again : (c : ℕ) → raised (raised c) ≡ raised c
