@@ -33,7 +33,14 @@ fn put_if(list: &mut [u8], at: usize, fault: bool, count: u64, rest: &[u8]) -> u
 }
 
 // Puts a list line for each fault of a line, in their order; answers the place after them.
-pub fn put_faults(list: &mut [u8], at: usize, eol: bool, blank: bool, case: bool, count: u64) -> usize
+pub fn put_faults(
+    list: &mut [u8],
+    at: usize,
+    eol: bool,
+    blank: bool,
+    case: bool,
+    count: u64,
+) -> usize
     requires { ⌜ Takes at (faultsSaid eol blank case count) (now list) ⌝ }
     ensures { λ r. ⌜ (r ≡ at + length (faultsSaid eol blank case count))
         × (now (list .exit) ≡ placed at (faultsSaid eol blank case count) (now (list .entry))) ⌝ }
