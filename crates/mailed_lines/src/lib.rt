@@ -56,7 +56,7 @@ pub fn is_raised(line: &[u8]) -> bool
 }
 
 // Whether a line is :ECS, in any case of its letters.
-fn is_ecs(line: &[u8]) -> bool
+pub fn is_ecs(line: &[u8]) -> bool
     ensures { λ r. ⌜ r ≡ isEcs (now (line .entry)) ⌝ }
 {
     if line.len() != 4 {

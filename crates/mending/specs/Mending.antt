@@ -1,72 +1,24 @@
 -- A mailed permit file mended, and the list of what was wrong with it.
-use mathlib.Core.Bool.{Bool, true, false, cond, not, _&&_}
+use mathlib.Core.Bool.{Bool, cond, _&&_}
 use mathlib.Core.List.{List, [], _∷_, _++_}
 use Prim.Native.Nat.{ℕ, suc}
 use lib.Dec.{leb}
 use lib.ListN.{length}
-use Rattle.text.specs.Ascii.{ascii}
-use Rattle.text.specs.Characters.{raisedText}
-use Rattle.text.specs.Texts.{sameText}
 use Rattle.forms.specs.Order.{demand}
-use Rattle.cell_permit.specs.CellPermit.{lineEnd}
-use Rattle.file_lines.specs.Lines.{ecs}
 use Rattle.permit_file.specs.File.{isHeader}
 use Rattle.mailed_lines.specs.Texts.{textsOf, joined}
-use Rattle.mailed_lines.specs.Mailed.{endsInCr, lineOf, unblanked, isEcs, fateOf}
-use Rattle.mailed_lines.specs.Saying.{said, faultsSaid, outSaid}
-use Rattle.mailed_lines.specs.declared.Fate.{Fate}
-use Rattle.mailed_lines.specs.declared.Fate.the-variants.{Kept, Last, Out}
+use Rattle.mailed_lines.specs.Mailed.{lineOf, unblanked, fateOf}
+use Rattle.mended_lines.specs.Gives.{Gives, headerGives, givesBy, unendedGives}
 
 -- a mended file and its list
 pub record Mended : Type 0 where
   pub file : List ℕ
   pub list : List ℕ
 
--- what a line gives of both, and whether lines after it are looked at
-pub record Gives : Type 0 where
-  pub file : List ℕ
-  pub list : List ℕ
-  pub more : Bool
-
--- what is said of a line that is kept as `mended`: EOL where its LF has no CR, BLANK where blanks stood at its end, CASE where letters were raised
-abbrev pub faultsOf : Bool → ℕ → List ℕ → List ℕ → List ℕ
-faultsOf eol count line mended =
-    faultsSaid eol (not (sameText (unblanked line) line)) (not (sameText mended (unblanked line))) count
-
--- one of the first three lines: blanks gone, letters raised, ended by CR LF
-unfoldable pub headerGives : ℕ → List ℕ → Gives
-headerGives count text = record {
-  file = raisedText (unblanked (lineOf text)) ++ lineEnd;
-  list = faultsOf (not (endsInCr text)) count (lineOf text) (raisedText (unblanked (lineOf text)));
-  more = true;
-}
-
--- a later line that LF ends, by what becomes of it: kept and ended by CR LF; :ECS, after which the rest is copied as it stands; left out
-abbrev pub givesBy : Fate → ℕ → List ℕ → List (List ℕ) → Gives
-givesBy Kept count text rest = record {
-  file = unblanked (lineOf text) ++ lineEnd;
-  list = faultsOf (not (endsInCr text)) count (lineOf text) (unblanked (lineOf text));
-  more = true;
-}
-givesBy Last count text rest = record {
-  file = (ecs ++ lineEnd) ++ joined rest;
-  list = faultsOf (not (endsInCr text)) count (lineOf text) ecs;
-  more = false;
-}
-givesBy Out count text rest = record { file = []; list = outSaid count (lineOf text); more = true }
-
--- what no LF ends: :ECS is kept without a line end, all else is left out and :ECS added, counted one past the last line
-unfoldable pub unendedGives : ℕ → List ℕ → Gives
-unendedGives count [] = record { file = ecs ++ lineEnd; list = said count (ascii "ECS"); more = false }
-unendedGives count (c ∷ line) =
-    cond (isEcs (unblanked (c ∷ line)))
-    (record { file = ecs; list = faultsOf false count (c ∷ line) ecs; more = false })
-    (record { file = ecs ++ lineEnd; list = outSaid count (c ∷ line) ++ said (suc count) (ascii "ECS"); more = false })
-
 -- what the first of the texts gives, where the rest follows it: the last text is the one that no LF ends
 unfoldable pub givesOf : ℕ → List ℕ → List (List ℕ) → Gives
 givesOf count text [] = unendedGives count text
-givesOf count text (next ∷ rest) = givesBy (fateOf (unblanked (lineOf text))) count text (next ∷ rest)
+givesOf count text (next ∷ rest) = givesBy (fateOf (unblanked (lineOf text))) count text (joined (next ∷ rest))
 
 -- what a line gives, and then what those after it give, where they are looked at
 abbrev pub followed : Gives → Mended → Mended

@@ -1,0 +1,24 @@
+-- What a line gives, put into two outputs. For contracts inside the crate and above.
+use mathlib.Core.List.{List}
+use Prim.Native.Nat.{ℕ, _+_}
+use lib.ListN.{length}
+use Rattle.text.specs.Texts.{placed}
+use Rattle.mailed_lines.specs.Putting.{Takes}
+use Rattle.mended_lines.specs.Gives.{Gives}
+use Rattle.mended_lines.specs.declared.Places.{Places}
+use Rattle.mended_lines.specs.declared.Given.{Given}
+
+-- both outputs take it at these places, or are empty
+abbrev pub Room : Gives → Places → List ℕ → List ℕ → Type 0
+Room g at out list = Takes (at .file) (g .file) out × Takes (at .list) (g .list) list
+
+-- the places after it, and whether lines after it are looked at
+abbrev pub given : Gives → Places → Given
+given g at = record { file = at .file + length (g .file); list = at .list + length (g .list); more = g .more }
+
+-- the two outputs afterwards
+abbrev pub outAfter : Gives → Places → List ℕ → List ℕ
+outAfter g at out = placed (at .file) (g .file) out
+
+abbrev pub listAfter : Gives → Places → List ℕ → List ℕ
+listAfter g at list = placed (at .list) (g .list) list

@@ -1,0 +1,197 @@
+// What each line of a mailed permit file gives: its part of the mended file and its part of the list, put after those before it.
+// An empty output takes nothing: then the places alone are told, and a text's length is measured without an output.
+ghost use mathlib.Core.Path.{_≡_};
+ghost use mathlib.Core.Bool.{true, false};
+ghost use mathlib.Core.List.{[], _++_};
+ghost use Prim.Native.Nat.{_+_, _<_, _^_};
+ghost use lib.ListN.{length};
+ghost use Rattle.text.specs.Characters.{raisedText};
+ghost use Rattle.text.specs.Texts.{placed};
+ghost use Rattle.cell_permit.specs.CellPermit.{lineEnd};
+ghost use Rattle.mailed_lines.specs.Mailed.{lineOf, unblanked, isEcs, fateOf};
+ghost use Rattle.mailed_lines.specs.Putting.{Takes};
+ghost use Rattle.mailed_lines.specs.declared.Fate.the-variants.{Kept, Last};
+ghost use Rattle.mended_lines.specs.Gives.{headerGives, givesBy, unendedGives};
+ghost use Rattle.mended_lines.specs.Giving.{Room, given, outAfter, listAfter};
+use mailed_lines::Fate;
+
+// Where the next texts are put, in the mended file and in the list.
+pub struct Places {
+    pub file: usize,
+    pub list: usize,
+}
+
+// The places after what a line gave, and whether lines after it are looked at.
+pub struct Given {
+    pub file: usize,
+    pub list: usize,
+    pub more: bool,
+}
+
+// Puts a line and its CR LF; answers the place after them.
+fn put_line(out: &mut [u8], at: usize, line: &[u8]) -> usize
+    requires { ⌜ Takes at (now line ++ lineEnd) (now out) ⌝ }
+    ensures { λ r. ⌜ (r ≡ at + length (now (line .entry) ++ lineEnd)) × (now (out .exit) ≡ placed at (now (line .entry) ++ lineEnd) (now (out .entry))) ⌝ }
+{
+    text::writing::put_text(out, at, line);
+    text::writing::put_text(out, at + line.len(), b"\r\n");
+    at + line.len() + 2
+}
+
+// The same of a line whose letters are raised.
+fn put_raised_line(out: &mut [u8], at: usize, line: &[u8]) -> usize
+    requires { ⌜ Takes at (raisedText (now line) ++ lineEnd) (now out) ⌝ }
+    ensures { λ r. ⌜ (r ≡ at + length (raisedText (now (line .entry)) ++ lineEnd)) × (now (out .exit) ≡ placed at (raisedText (now (line .entry)) ++ lineEnd) (now (out .entry))) ⌝ }
+{
+    text::writing::put_raised(out, at, line);
+    text::writing::put_text(out, at + line.len(), b"\r\n");
+    at + line.len() + 2
+}
+
+// One of the first three lines.
+pub fn put_header_line(
+    text: &[u8],
+    count: u64,
+    out: &mut [u8],
+    list: &mut [u8],
+    at: Places,
+) -> Given
+    requires { ⌜ Room (headerGives count (now text)) at (now out) (now list) ⌝ }
+    ensures { λ r. ⌜ (r ≡ given (headerGives count (now (text .entry))) at)
+        × ((now (out .exit) ≡ outAfter (headerGives count (now (text .entry))) at (now (out .entry)))
+        × (now (list .exit) ≡ listAfter (headerGives count (now (text .entry))) at (now (list .entry)))) ⌝ }
+{
+    let n = mailed_lines::line_length(text);
+    let k = mailed_lines::unblanked_length(&text[..n]);
+    let case = !mailed_lines::is_raised(&text[..k]);
+    Given {
+        file: put_raised_line(out, at.file, &text[..k]),
+        list: mailed_lines::saying::put_faults(list, at.list, n == text.len(), k < n, case, count),
+        more: true,
+    }
+}
+
+// A line of n bytes that is kept, k of them without the blanks at its end.
+fn put_kept(
+    text: &[u8],
+    n: usize,
+    k: usize,
+    count: u64,
+    out: &mut [u8],
+    list: &mut [u8],
+    at: Places,
+) -> Given
+    requires { ⌜ (n ≡ length (lineOf (now text))) × (k ≡ length (unblanked (lineOf (now text)))) ⌝ }
+    requires { ⌜ Room (givesBy Kept count (now text) []) at (now out) (now list) ⌝ }
+    ensures { λ r. ⌜ (r ≡ given (givesBy Kept count (now (text .entry)) []) at)
+        × ((now (out .exit) ≡ outAfter (givesBy Kept count (now (text .entry)) []) at (now (out .entry)))
+        × (now (list .exit) ≡ listAfter (givesBy Kept count (now (text .entry)) []) at (now (list .entry)))) ⌝ }
+{
+    Given {
+        file: put_line(out, at.file, &text[..k]),
+        list: mailed_lines::saying::put_faults(list, at.list, n == text.len(), k < n, false, count),
+        more: true,
+    }
+}
+
+// The line :ECS, and what stands after its LF, as it stands.
+fn put_last(
+    text: &[u8],
+    after: &[u8],
+    n: usize,
+    k: usize,
+    count: u64,
+    out: &mut [u8],
+    list: &mut [u8],
+    at: Places,
+) -> Given
+    requires { ⌜ (n ≡ length (lineOf (now text))) × (k ≡ length (unblanked (lineOf (now text)))) ⌝ }
+    requires { ⌜ isEcs (unblanked (lineOf (now text))) ≡ true ⌝ }
+    requires { ⌜ Room (givesBy Last count (now text) (now after)) at (now out) (now list) ⌝ }
+    ensures { λ r. ⌜ (r ≡ given (givesBy Last count (now (text .entry)) (now (after .entry))) at)
+        × ((now (out .exit) ≡ outAfter (givesBy Last count (now (text .entry)) (now (after .entry))) at (now (out .entry)))
+        × (now (list .exit) ≡ listAfter (givesBy Last count (now (text .entry)) (now (after .entry))) at (now (list .entry)))) ⌝ }
+{
+    let case = !mailed_lines::is_raised(&text[..k]);
+    let rest = put_line(out, at.file, b":ECS");
+    text::writing::put_text(out, rest, after);
+    Given {
+        file: rest + after.len(),
+        list: mailed_lines::saying::put_faults(list, at.list, n == text.len(), k < n, case, count),
+        more: false,
+    }
+}
+
+// A line that LF ends after the header; after is what stands behind its LF.
+pub fn put_ended(
+    text: &[u8],
+    after: &[u8],
+    count: u64,
+    out: &mut [u8],
+    list: &mut [u8],
+    at: Places,
+) -> Given
+    requires { ⌜ Room (givesBy (fateOf (unblanked (lineOf (now text)))) count (now text) (now after)) at (now out) (now list) ⌝ }
+    ensures { λ r. ⌜ (r ≡ given (givesBy (fateOf (unblanked (lineOf (now (text .entry))))) count (now (text .entry)) (now (after .entry))) at)
+        × ((now (out .exit) ≡ outAfter (givesBy (fateOf (unblanked (lineOf (now (text .entry))))) count (now (text .entry)) (now (after .entry))) at (now (out .entry)))
+        × (now (list .exit) ≡ listAfter (givesBy (fateOf (unblanked (lineOf (now (text .entry))))) count (now (text .entry)) (now (after .entry))) at (now (list .entry)))) ⌝ }
+{
+    let n = mailed_lines::line_length(text);
+    let k = mailed_lines::unblanked_length(&text[..n]);
+    match mailed_lines::fate_of(&text[..k]) {
+        Fate::Kept => put_kept(text, n, k, count, out, list, at),
+        Fate::Last => put_last(text, after, n, k, count, out, list, at),
+        Fate::Out => Given {
+            file: at.file,
+            list: mailed_lines::saying::put_out(list, at.list, count, &text[..n]),
+            more: true,
+        },
+    }
+}
+
+// What no LF ends, where it is not :ECS: a line that is left out, if it has any byte, and :ECS is added.
+fn put_added(line: &[u8], count: u64, out: &mut [u8], list: &mut [u8], at: Places) -> Given
+    requires { ⌜ (count + 1 < 2 ^ 64) × (isEcs (unblanked (now line)) ≡ false) ⌝ }
+    requires { ⌜ Room (unendedGives count (now line)) at (now out) (now list) ⌝ }
+    ensures { λ r. ⌜ (r ≡ given (unendedGives count (now (line .entry))) at)
+        × ((now (out .exit) ≡ outAfter (unendedGives count (now (line .entry))) at (now (out .entry)))
+        × (now (list .exit) ≡ listAfter (unendedGives count (now (line .entry))) at (now (list .entry)))) ⌝ }
+{
+    let file = put_line(out, at.file, b":ECS");
+    if line.len() == 0 {
+        let end = mailed_lines::saying::put_counted(list, at.list, count, b" ECS\n");
+        return Given {
+            file,
+            list: end,
+            more: false,
+        };
+    }
+    let next = mailed_lines::saying::put_out(list, at.list, count, line);
+    let end = mailed_lines::saying::put_counted(list, next, count + 1, b" ECS\n");
+    Given {
+        file,
+        list: end,
+        more: false,
+    }
+}
+
+// What no LF ends.
+pub fn put_unended(line: &[u8], count: u64, out: &mut [u8], list: &mut [u8], at: Places) -> Given
+    requires { ⌜ count + 1 < 2 ^ 64 ⌝ }
+    requires { ⌜ Room (unendedGives count (now line)) at (now out) (now list) ⌝ }
+    ensures { λ r. ⌜ (r ≡ given (unendedGives count (now (line .entry))) at)
+        × ((now (out .exit) ≡ outAfter (unendedGives count (now (line .entry))) at (now (out .entry)))
+        × (now (list .exit) ≡ listAfter (unendedGives count (now (line .entry))) at (now (list .entry)))) ⌝ }
+{
+    let k = mailed_lines::unblanked_length(line);
+    if !mailed_lines::is_ecs(&line[..k]) {
+        return put_added(line, count, out, list, at);
+    }
+    let case = !mailed_lines::is_raised(&line[..k]);
+    text::writing::put_text(out, at.file, b":ECS");
+    Given {
+        file: at.file + 4,
+        list: mailed_lines::saying::put_faults(list, at.list, false, k < line.len(), case, count),
+        more: false,
+    }
+}
