@@ -1,4 +1,4 @@
--- A file cut at its LFs: its texts, which none has an LF in, joined are the file again; the first at a place, and those after it.
+-- A file cut at its LFs: its texts have no LF, and joined they are the file again; the first at a place, and those after it.
 -- Assumes nothing.
 use mathlib.Core.Path.{_≡_, refl, sym, ap, ap₂, _∙_}
 use mathlib.Core.Bool.{Bool, true, false, not}
@@ -24,7 +24,7 @@ abbrev pub AllWithout : List (List ℕ) → Type 0
 AllWithout [] = Unit {0}
 AllWithout (t ∷ ts) = (allOf notLf t ≡ true) × AllWithout ts
 
--- texts: there is always one at least
+-- the first of some texts, and the others
 abbrev pub firstOf : List (List ℕ) → List ℕ
 firstOf [] = []
 firstOf (t ∷ ts) = t
@@ -33,6 +33,7 @@ abbrev pub restOf : List (List ℕ) → List (List ℕ)
 restOf [] = []
 restOf (t ∷ ts) = ts
 
+-- a file has one at least
 pub never-empty : (s : List ℕ) → textsOf s ≡ firstOf (textsOf s) ∷ restOf (textsOf s)
 unfolding textsOf onto
 never-empty [] = refl
@@ -65,6 +66,7 @@ joined-texts (c ∷ s) =
     rw on (joined-first c (textsOf s) (firstOf (textsOf s)) (restOf (textsOf s)) (never-empty s)
     ∙ ap (λ (l : List ℕ). c ∷ l) (joined-texts s)))
 
+-- the first is no longer than the file
 pub text-within : (s : List ℕ) → textLength s ≤ length s
 unfolding textLength
 text-within [] = omega arith

@@ -64,37 +64,42 @@ module _ (line : List ℕ) where
       let all : length after ≤ 4 = omega (arith, ap length is ∙ length-map line raised) in
       ap (λ (l : List ℕ). sameText l ecs) (take-all 4 after all ∙ is)
 
-  -- a comment begins somewhere exactly where the line has its shape
+  -- where a comment begins the line has its shape
   pub comment-shape : (at : ℕ) → commentAt line ≡ At at → isLine line ≡ true
   unfolding commentAt
   comment-shape at made = at-made (isLine line) (commentPlace line) at made
 
+  -- and where none does it has not
   pub no-comment-shape : commentAt line ≡ None → isLine line ≡ false
   unfolding commentAt
   no-comment-shape made = none-made (isLine line) (commentPlace line) made
 
-  -- what each fate says of the line
+  -- a line that is kept has a line's shape and is not :ECS
   pub kept-is : fateOf line ≡ Kept → (isLine line ≡ true) × (isEcs line ≡ false)
   unfolding fateOf
   kept-is made = kept-made (isEcs line) (isLine line) made
 
+  -- the last is :ECS
   pub last-is : fateOf line ≡ Last → isEcs line ≡ true
   unfolding fateOf
   last-is made = last-made (isEcs line) (isLine line) made
 
+  -- one left out is neither
   pub out-is : fateOf line ≡ Out → (isEcs line ≡ false) × (isLine line ≡ false)
   unfolding fateOf
   out-is made = out-made (isEcs line) (isLine line) made
 
-  -- and what of the line makes each
+  -- and back: what has the shape and is not :ECS is kept
   pub is-kept : isLine line ≡ true → isEcs line ≡ false → fateOf line ≡ Kept
   unfolding fateOf
   is-kept good other = rw (other, good)
 
+  -- :ECS is the last
   pub is-last : isEcs line ≡ true → fateOf line ≡ Last
   unfolding fateOf
   is-last ended = rw ended
 
+  -- what is neither is left out
   pub is-out : isEcs line ≡ false → isLine line ≡ false → fateOf line ≡ Out
   unfolding fateOf
   is-out other bad = rw (other, bad)

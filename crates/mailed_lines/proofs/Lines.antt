@@ -26,6 +26,7 @@ line-before-cr [] = refl
 line-before-cr (c ∷ []) = refl
 line-before-cr (c ∷ d ∷ m) = ap (λ (l : List ℕ). c ∷ l) (line-before-cr (d ∷ m))
 
+-- which is one that CR ends
 pub cr-at-end : (m : List ℕ) → endsInCr (m ++ (13 ∷ [])) ≡ true
 unfolding endsInCr
 cr-at-end [] = refl
@@ -66,6 +67,7 @@ module _ (t s : List ℕ) (start : take (length t) s ≡ t) where
       let equal : t ≡ s = sym start ∙ ap (λ (n : ℕ). take n s) (eqb-true (length t) (length s) size) ∙ take-length s in
       rw equal (same-refl s))
 
+-- so it is no longer
 pub line-short : (t : List ℕ) → length (lineOf t) ≤ length t
 line-short t = start-short (lineOf t) t (line-start t)
 
@@ -77,17 +79,19 @@ no-cr-shown t =
     rw (cr, ne-eqb (length (lineOf t)) (length t) (λ e. omega (arith, ap length (line-and-cr t cr) ∙ length-append (lineOf t) (13 ∷ [])))))
     (λ none. rw (none, eq-eqb (length (lineOf t)) (length t) (ap length (line-whole t none))))
 
--- what is left is what the line begins with
+-- a byte before what is left
 before-start : (c : ℕ) (s r : List ℕ) → take (length r) s ≡ r → take (length (beforeRest c r)) (c ∷ s) ≡ beforeRest c r
 unfolding beforeRest
 before-start c s [] e = either (eqb c 32) (λ blank. rw blank) (λ other. rw other)
 before-start c s (d ∷ r) e = ap (λ (l : List ℕ). c ∷ l) e
 
+-- what is left of a line is what it begins with
 pub unblanked-start : (s : List ℕ) → take (length (unblanked s)) s ≡ unblanked s
 unfolding unblanked
 unblanked-start [] = refl
 unblanked-start (c ∷ s) = before-start c s (unblanked s) (unblanked-start s)
 
+-- so it is no longer
 pub unblanked-short : (s : List ℕ) → length (unblanked s) ≤ length s
 unblanked-short s = start-short (unblanked s) s (unblanked-start s)
 
@@ -95,18 +99,17 @@ unblanked-short s = start-short (unblanked s) s (unblanked-start s)
 pub no-blank-shown : (s : List ℕ) → sameText (unblanked s) s ≡ eqb (length (unblanked s)) (length s)
 no-blank-shown s = start-same (unblanked s) s (unblanked-start s)
 
--- blanks that are gone are gone
 before-stays : (c : ℕ) (r : List ℕ) → unblanked r ≡ r → unblanked (beforeRest c r) ≡ beforeRest c r
 unfolding unblanked beforeRest
 before-stays c [] e = either (eqb c 32) (λ blank. rw blank) (λ other. rw (other, other))
 before-stays c (d ∷ r) e = rw e
 
+-- blanks that are gone are gone
 pub unblanked-stays : (s : List ℕ) → unblanked (unblanked s) ≡ unblanked s
 unfolding unblanked
 unblanked-stays [] = refl
 unblanked-stays (c ∷ s) = before-stays c (unblanked s) (unblanked-stays s)
 
--- raising: once is enough
 raised-again : (c : ℕ) → raised (raised c) ≡ raised c
 unfolding raised
 raised-again c =
@@ -114,21 +117,23 @@ raised-again c =
     (λ small. rw (small, lt-leb 97 (c - 97 + 65) (omega (arith, between-high 97 122 c small))))
     (λ other. rw (other, other))
 
+-- raising once is enough
 pub raised-twice : (s : List ℕ) → raisedText (raisedText s) ≡ raisedText s
 raised-twice [] = refl
 raised-twice (c ∷ s) = ap₂ (λ (d : ℕ) (l : List ℕ). d ∷ l) (raised-again c) (raised-twice s)
 
--- a blank is no letter, so raising and taking blanks off may go in either order
 raised-before : (c : ℕ) (r : List ℕ) → beforeRest (raised c) (raisedText r) ≡ raisedText (beforeRest c r)
 unfolding beforeRest
 raised-before c [] = either (eqb c 32) (λ blank. rw (low-raised c 32 (omega arith), blank)) (λ other. rw (low-raised c 32 (omega arith), other))
 raised-before c (d ∷ r) = refl
 
+-- a blank is no letter, so raising and taking blanks off may go in either order
 pub unblanked-raised : (s : List ℕ) → unblanked (raisedText s) ≡ raisedText (unblanked s)
 unfolding unblanked
 unblanked-raised [] = refl
 unblanked-raised (c ∷ s) = ap (beforeRest (raised c)) (unblanked-raised s) ∙ raised-before c (unblanked s)
 
+-- and a line without blanks at its end has none when it is raised
 pub raised-unblanked : (s : List ℕ) → unblanked (raisedText (unblanked s)) ≡ raisedText (unblanked s)
 raised-unblanked s = unblanked-raised (unblanked s) ∙ ap raisedText (unblanked-stays s)
 
@@ -139,13 +144,15 @@ all-take test zero s all = refl
 all-take test (suc n) [] all = all
 all-take test (suc n) (c ∷ s) all = all-more test c (take n s) (all-first test c s all) (all-take test n s (all-rest test c s all))
 
--- no LF comes in
+-- a text without LF has a line without LF
 pub line-without : (t : List ℕ) → allOf notLf t ≡ true → allOf notLf (lineOf t) ≡ true
 line-without t none = ap (allOf notLf) (sym (line-start t)) ∙ all-take notLf (length (lineOf t)) t none
 
+-- it stays so without its blanks
 pub unblanked-without : (s : List ℕ) → allOf notLf s ≡ true → allOf notLf (unblanked s) ≡ true
 unblanked-without s none = ap (allOf notLf) (sym (unblanked-start s)) ∙ all-take notLf (length (unblanked s)) s none
 
+-- and when it is raised
 pub raised-without : (s : List ℕ) → allOf notLf s ≡ true → allOf notLf (raisedText s) ≡ true
 raised-without [] none = none
 raised-without (c ∷ s) none =

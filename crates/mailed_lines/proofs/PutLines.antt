@@ -36,7 +36,7 @@ module _ (at : ℕ) (fault : Bool) (n : ℕ) (rest out : List ℕ) where
   unfolding countedIf
   put-no-fault none = rw none (put-nothing at out)
 
--- what is put for each fault is what is said of it
+-- what is put for each fault
 abbrev pub eolPut : Bool → ℕ → List ℕ
 eolPut eol n = countedIf eol n (ascii " EOL\n")
 
@@ -46,11 +46,12 @@ blankPut blank n = countedIf blank n (ascii " BLANK\n")
 abbrev pub casePut : Bool → ℕ → List ℕ
 casePut case n = countedIf case n (ascii " CASE\n")
 
+-- is what is said of them, in their order
 pub faults-put : (eol blank case : Bool) (n : ℕ) → faultsSaid eol blank case n ≡ eolPut eol n ++ (blankPut blank n ++ casePut case n)
 unfolding faultsSaid saidIf said countedIf
 faults-put eol blank case n = refl
 
--- its first part's length
+-- how long a count and OUT are
 pub counted-length : (n : ℕ) → length (numeral n ++ ascii " OUT ") ≡ width n + 5
 counted-length n = length-append (numeral n) (ascii " OUT ") ∙ ap (λ (k : ℕ). k + 5) (numeral-length n)
 

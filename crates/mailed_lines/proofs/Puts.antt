@@ -23,17 +23,17 @@ placed-empty at (c ∷ t) out none = placed-beyond at (c ∷ t) out (omega arith
 pub put-nothing : (at : ℕ) (out : List ℕ) → Put at [] out at out
 put-nothing at out = (omega arith, sym (placed-none at out))
 
--- an output that takes a text takes what the text begins with
+-- an output that takes a text takes a shorter one there
 pub takes-shorter : (at : ℕ) (t u out : List ℕ) → length u ≤ length t → Takes at t out → Takes at u out
 takes-shorter at t u out short takes =
     (omega (arith, takes .0), ⊎-elim (λ fits. inl (omega arith)) (λ none. inr none) (takes .1))
 
 module _ (at : ℕ) (t u out : List ℕ) (takes : Takes at (t ++ u) out) where
-  -- the first text
+  -- it takes the first
   pub takes-first : Takes at t out
   takes-first = takes-shorter at (t ++ u) t out (omega (arith, length-append t u)) takes
 
-  -- the one after it, wherever the first has been put
+  -- and the one after it, once the first is put
   pub takes-next : (n : ℕ) (out1 : List ℕ) → Put at t out n out1 → Takes n u out1
   takes-next n out1 first =
       let size : length out1 ≡ length out = ap length (first .1) ∙ length-placed at t out in (
@@ -41,7 +41,7 @@ module _ (at : ℕ) (t u out : List ℕ) (takes : Takes at (t ++ u) out) where
         ⊎-elim (λ fits. inl (omega (arith, first .0, length-append t u))) (λ none. inr (size ∙ none)) (takes .1),
       )
 
-  -- one after the other they are one text
+  -- what both come to is one text put
   pub placed-both : (n : ℕ) → n ≡ at + length t → placed n u (placed at t out) ≡ placed at (t ++ u) out
   placed-both n e =
       ⊎-elim
@@ -50,21 +50,25 @@ module _ (at : ℕ) (t u out : List ℕ) (takes : Takes at (t ++ u) out) where
       ap (placed n u) (placed-empty at t out none) ∙ placed-empty n u out none ∙ sym (placed-empty at (t ++ u) out none))
       (takes .1)
 
+  -- and it ends where the second does
   pub put-both : (n m : ℕ) (out1 out2 : List ℕ) → Put at t out n out1 → Put n u out1 m out2 → Put at (t ++ u) out m out2
   put-both n m out1 out2 first next = (
     omega (arith, first .0, next .0, length-append t u),
     next .1 ∙ ap (placed n u) (first .1) ∙ placed-both n (first .0),
   )
 
--- and three of them
+-- three of them
 module _ (at : ℕ) (t u v out : List ℕ) (takes : Takes at (t ++ (u ++ v)) out) (n : ℕ) (out1 : List ℕ) (first : Put at t out n out1) where
+  -- the second is taken where the first ends
   pub takes-second : Takes n u out1
   takes-second = takes-first n u v out1 (takes-next at t (u ++ v) out takes n out1 first)
 
   module _ (m : ℕ) (out2 : List ℕ) (second : Put n u out1 m out2) where
+    -- the third where the second ends
     pub takes-third : Takes m v out2
     takes-third = takes-next n u v out1 (takes-next at t (u ++ v) out takes n out1 first) m out2 second
 
+    -- and all are one text put
     pub put-three : (k : ℕ) (out3 : List ℕ) → Put m v out2 k out3 → Put at (t ++ (u ++ v)) out k out3
     put-three k out3 third =
         put-both at t (u ++ v) out takes n k out1 out3 first

@@ -20,11 +20,12 @@ said-length n what = simp length-append (omega (arith, numeral-length n))
 pub said-some : (n : ℕ) (what : List ℕ) → said n what ≡ [] → ⊥
 said-some n what none = omega (arith, ap length none, said-length n what)
 
--- a line's, left out
+-- how long that of a line left out is
 pub out-length : (n : ℕ) (line : List ℕ) → length (outSaid n line) ≡ width n + length line + 6
 unfolding outSaid
 out-length n line = said-length n (ascii "OUT " ++ line) ∙ (omega arith)
 
+-- it is not empty
 pub out-some : (n : ℕ) (line : List ℕ) → outSaid n line ≡ [] → ⊥
 unfolding outSaid
 out-some n line = said-some n (ascii "OUT " ++ line)
@@ -52,7 +53,7 @@ module _ (eol blank case : Bool) (n : ℕ) where
   faults-length =
       omega (arith, sizes, if-length eol n (ascii "EOL"), if-length blank n (ascii "BLANK"), if-length case n (ascii "CASE"))
 
-  -- and none is said exactly where there is no fault
+  -- where none is said there is no fault
   pub faults-none : faultsSaid eol blank case n ≡ [] → (eol ≡ false) × ((blank ≡ false) × (case ≡ false))
   faults-none none =
       let all : length (faultsSaid eol blank case n) ≡ 0 = ap length none in (
@@ -60,6 +61,7 @@ module _ (eol blank case : Bool) (n : ℕ) where
         (if-none blank n (ascii "BLANK") (omega (arith, sizes)), if-none case n (ascii "CASE") (omega (arith, sizes))),
       )
 
+-- and where there is none none is said
 pub none-said : (n : ℕ) → faultsSaid false false false n ≡ []
 unfolding faultsSaid saidIf
 none-said n = refl

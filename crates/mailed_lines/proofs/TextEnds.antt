@@ -29,12 +29,15 @@ module _ (file : List ℕ) where
       let split : drop i file ≡ getD file i 0 ∷ drop (i + 1) file = drop-cons file i 0 h ∙ ap (λ (n : ℕ). getD file i 0 ∷ drop n file) (sym (add-one i)) in
       ap (λ (s : List ℕ). i + textLength s) split ∙ by-head i (getD file i 0) (drop (i + 1) file)
 
+  -- an LF ends the text
   pub ends-here : (i : ℕ) → i < length file → getD file i 0 ≡ 10 → textEnds file i ≡ i
   ends-here i h lf = by-byte i h ∙ rw (eq-eqb (getD file i 0) 10 lf)
 
+  -- any other byte is passed
   pub goes-on : (i : ℕ) → i < length file → (getD file i 0 ≡ 10 → ⊥) → textEnds file i ≡ textEnds file (i + 1)
   goes-on i h other = by-byte i h ∙ rw (ne-eqb (getD file i 0) 10 other)
 
+  -- the file's end ends it too
   pub ends-with-file : (i : ℕ) → length file ≤ i → textEnds file i ≡ i
   unfolding textEnds textLength
   ends-with-file i h = rw (drop-of-length-le file h) (omega arith)
@@ -51,6 +54,7 @@ module _ (file : List ℕ) where
       ∙ passes n (i + 1) (omega arith) (all-rest (ltb 13) (getD file i 0) (part n file (i + 1)) each)
       ∙ ap (textEnds file) e
 
+  -- eight bytes beyond CR are passed at once
   pub word-passed : Below 256 file → (i : ℕ) → i + 8 ≤ length file → allOf (ltb 13) (bytesOf 8 (numberAt 8 file i)) ≡ true
       → textEnds file i ≡ textEnds file (i + 8)
   word-passed below i within all = passes 8 i within (sym (ap (allOf (ltb 13)) (bytes-at 8 file i below within)) ∙ all)
