@@ -27,7 +27,8 @@ use Rattle.mailed_lines.specs.declared.Fate.the-variants.{Kept, Last, Out}
 use Rattle.mailed_lines.proofs.CutTexts.{notLf, AllWithout, firstOf, restOf, never-empty, joined-texts, texts-without, text-before}
 use Rattle.mailed_lines.proofs.Lines.{line-before-cr, cr-at-end, line-and-cr, unblanked-stays, raised-twice, raised-unblanked, line-without, unblanked-without, raised-without}
 use Rattle.mailed_lines.proofs.SaidTexts.{said-some, out-some, faults-none, none-said}
-use Rattle.mending.specs.Mending.{Mended, Gives, faultsOf, headerGives, givesBy, unendedGives, givesOf, followed, mendedFrom, mendedTexts, mendedOf, isMended}
+use Rattle.mended_lines.specs.Gives.{Gives, faultsOf, headerGives, givesBy, unendedGives}
+use Rattle.mending.specs.Mending.{Mended, givesOf, followed, mendedFrom, mendedTexts, mendedOf, isMended}
 use Rattle.mending.specs.Again.{MendedStays, ListedExactly}
 
 -- a file of which nothing is said
@@ -49,7 +50,7 @@ ended-text line file none =
 
 module _ (count : ℕ) (file : List ℕ) where
   -- the first text of a file whose first line is ended, and then those of the rest
-  first-gives : (text : List ℕ) → mendedFrom count (text ∷ textsOf file) ≡ followed (givesBy (fateOf (unblanked (lineOf text))) count text (textsOf file)) (mendedFrom (suc count) (textsOf file))
+  first-gives : (text : List ℕ) → mendedFrom count (text ∷ textsOf file) ≡ followed (givesBy (fateOf (unblanked (lineOf text))) count text (joined (textsOf file))) (mendedFrom (suc count) (textsOf file))
   unfolding mendedFrom givesOf
   first-gives text = rw (never-empty file)
 

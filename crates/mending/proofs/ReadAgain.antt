@@ -37,7 +37,8 @@ use Rattle.mailed_lines.specs.declared.Fate.the-variants.{Kept, Last, Out}
 use Rattle.mailed_lines.proofs.CutTexts.{notLf, AllWithout, texts-without}
 use Rattle.mailed_lines.proofs.Lines.{line-without, unblanked-without}
 use Rattle.mailed_lines.proofs.Fates.{kept-is}
-use Rattle.mending.specs.Mending.{Mended, mendedFrom, givesOf, unendedGives, mendedTexts, mendedOf, isMended}
+use Rattle.mended_lines.specs.Gives.{unendedGives}
+use Rattle.mending.specs.Mending.{Mended, mendedFrom, givesOf, mendedTexts, mendedOf, isMended}
 use Rattle.mending.specs.ReadAgain.{keptBy, keptFrom, keptLines, ReadsAsKept, isTwelve, NoTwelve}
 use Rattle.mending.proofs.Again.{for-headed}
 use Rattle.mending.proofs.GoodHeaders.{after-header}

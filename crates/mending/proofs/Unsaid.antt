@@ -15,7 +15,8 @@ use Rattle.mailed_lines.specs.Saying.{outSaid}
 use Rattle.mailed_lines.specs.declared.Fate.{Fate}
 use Rattle.mailed_lines.specs.declared.Fate.the-variants.{Kept, Last, Out}
 use Rattle.mailed_lines.proofs.Fates.{kept-is, last-is, out-is}
-use Rattle.mending.specs.Mending.{faultsOf, headerGives, unendedGives, givesOf, mendedFrom, mendedTexts, mendedOf, isMended}
+use Rattle.mended_lines.specs.Gives.{faultsOf, headerGives, unendedGives}
+use Rattle.mending.specs.Mending.{givesOf, mendedFrom, mendedTexts, mendedOf, isMended}
 use Rattle.mending.specs.Unsaid.{Old, endedOld, unendedOld, oldFrom, oldLines, each, inFile, inList, afterEcs, addedAfter, EachLine, Among, Within, NothingUnsaid}
 use Rattle.mending.proofs.Again.{for-headed}
 

@@ -13,7 +13,8 @@ use Rattle.mailed_lines.specs.Mailed.{endsInCr, lineOf, unblanked, isEcs, fateO
 use Rattle.mailed_lines.specs.Saying.{said, outSaid}
 use Rattle.mailed_lines.specs.declared.Fate.{Fate}
 use Rattle.mailed_lines.specs.declared.Fate.the-variants.{Kept, Last, Out}
-use Rattle.mending.specs.Mending.{faultsOf, mendedFrom, mendedOf, isMended}
+use Rattle.mended_lines.specs.Gives.{faultsOf}
+use Rattle.mending.specs.Mending.{mendedFrom, mendedOf, isMended}
 
 -- an old line: its count, how it stands in the old file, its bytes, whether it is kept, how it then stands in the mended file, and its faults
 pub record Old : Type 0 where
