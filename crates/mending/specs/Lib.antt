@@ -4,3 +4,4 @@ pub mod Program
 pub mod Again
 pub mod ReadAgain
 pub mod Unsaid
+pub mod Walking

@@ -1,0 +1,109 @@
+-- The mending text by text: its header, one turn, and what a walk answers. For contracts inside the crate alone.
+use mathlib.Core.Bool.{Bool, true, false, cond, _&&_}
+use mathlib.Core.Path.{_≡_}
+use mathlib.Core.List.{List, [], _∷_, _++_}
+use mathlib.Core.Logic.{_⊎_}
+use Prim.Native.Nat.{ℕ, _+_, _-_, _^_, _≤_, _<_}
+use lib.Dec.{leb, ltb}
+use lib.ListN.{length, take, drop}
+use Rattle.mailed_lines.specs.Texts.{textsOf, textEnds}
+use Rattle.mended_lines.specs.Gives.{Gives, headerGives}
+use Rattle.mended_lines.specs.declared.Places.{Places}
+use Rattle.mending.specs.Mending.{Mended, givesOf, mendedFrom}
+use Rattle.mending.specs.declared.Answer.{Answer}
+use Rattle.mending.specs.declared.Answer.the-variants as answer
+use Rattle.mending.specs.declared.Lengths.{Lengths}
+use Rattle.mending.specs.declared.header.Ends.{Ends}
+use Rattle.mending.specs.declared.header.Header.{Header}
+use Rattle.mending.specs.declared.header.Header.the-variants as header
+use Rattle.mending.specs.declared.walking.Going.{Going}
+
+-- the ends of the first three texts
+unfoldable pub endsOf : List ℕ → Ends
+endsOf file = record {
+  first = textEnds file 0;
+  second = textEnds file (textEnds file 0 + 1);
+  third = textEnds file (textEnds file (textEnds file 0 + 1) + 1);
+}
+
+-- where LF ends each of them
+unfoldable pub headerEnds : List ℕ → Header
+headerEnds file =
+    cond (ltb (endsOf file .first) (length file) && ltb (endsOf file .second) (length file) && ltb (endsOf file .third) (length file))
+    (header.Three (endsOf file))
+    header.Fewer
+
+-- the three texts that end there
+abbrev pub firstText : List ℕ → Ends → List ℕ
+firstText file e = take (e .first) file
+
+abbrev pub secondText : List ℕ → Ends → List ℕ
+secondText file e = take (e .second - (e .first + 1)) (drop (e .first + 1) file)
+
+abbrev pub thirdText : List ℕ → Ends → List ℕ
+thirdText file e = take (e .third - (e .second + 1)) (drop (e .second + 1) file)
+
+-- what they give together
+unfoldable pub headerOf : List ℕ → Ends → Mended
+headerOf file e =
+    let one = headerGives 1 (firstText file e) in
+    let two = headerGives 2 (secondText file e) in
+    let three = headerGives 3 (thirdText file e) in
+    record { file = one .file ++ (two .file ++ three .file); list = one .list ++ (two .list ++ three .list) }
+
+-- how long both are
+unfoldable pub sizeOf : Mended → Places
+sizeOf m = record { file = length (m .file); list = length (m .list) }
+
+-- what the first of some texts gives
+abbrev pub firstGives : ℕ → List (List ℕ) → Gives
+firstGives count [] = record { file = []; list = []; more = false }
+firstGives count (text ∷ rest) = givesOf count text rest
+
+-- what the text at a place gives
+unfoldable pub givesAt : List ℕ → ℕ → ℕ → Gives
+givesAt file place count = firstGives count (textsOf (drop place file))
+
+-- the places of what is put next
+abbrev pub placesOf : Going → Places
+placesOf t = record { file = t .file; list = t .list }
+
+-- where the mending stands after a text
+unfoldable pub turned : List ℕ → Going → Going
+turned file t =
+    let g = givesAt file (t .place) (t .count) in
+    record {
+      place = textEnds file (t .place) + 1;
+      count = t .count + 1;
+      file = t .file + length (g .file);
+      list = t .list + length (g .list);
+      more = g .more;
+    }
+
+-- the texts after the header, which end before a place
+unfoldable pub laterOf : List ℕ → ℕ → Mended
+laterOf file place = mendedFrom 4 (textsOf (drop place file))
+
+-- both are no longer than their room
+unfoldable pub fits : Lengths → Lengths → Bool
+fits size room = leb (size .file) (room .file) && leb (size .list) (room .list)
+
+-- both lengths where they fit in the room, else 108
+unfoldable pub answered : Lengths → Lengths → Answer
+answered room size = cond (fits size room) (answer.Done size) (answer.Refused 108)
+
+-- how long both are, put after these places
+unfoldable pub sizeAfter : Places → Mended → Lengths
+sizeAfter at m = record { file = at .file + length (m .file); list = at .list + length (m .list) }
+
+-- a walk may begin: behind a header, with small places and rooms, and into outputs that take all of it or are empty
+pub record Walkable (file : List ℕ) (place : ℕ) (at : Places) (room : Lengths) (out list : List ℕ) : Type 0 where
+  pub within : place ≤ length file
+  pub behind : 37 ≤ place
+  pub short : length file < 2 ^ 63
+  pub file-room : room .file < 2 ^ 63
+  pub list-room : room .list < 2 ^ 63
+  pub outputs
+      : ((length out ≡ 0) × (length list ≡ 0))
+      ⊎ ((fits (sizeAfter at (laterOf file place)) room ≡ true)
+      × ((at .file + length (laterOf file place .file) ≤ length out) × (at .list + length (laterOf file place .list) ≤ length list)))
