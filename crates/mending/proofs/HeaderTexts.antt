@@ -59,8 +59,7 @@ module _ (file : List ℕ) (e : Ends) (made : headerEnds file ≡ Three e) where
   unfolding headerEnds endsOf
   found =
       let passed = three-made _ (endsOf file) e made in
-      let two = and-first (ltb first (length file) && ltb second (length file)) (ltb third (length file)) (passed .0) in
-      (
+      let two = and-first (ltb first (length file) && ltb second (length file)) (ltb third (length file)) (passed .0) in (
         passed .1,
         (
           ltb-true first (length file) (and-first (ltb first (length file)) (ltb second (length file)) two),
@@ -113,11 +112,11 @@ module _ (file : List ℕ) (e : Ends) (made : headerEnds file ≡ Three e) where
       let rest = mendedFrom 4 (textsOf later) in
       let whole = ap mendedTexts three-texts ∙ headed (firstText file e) (secondText file e) (thirdText file e) later in (
         ap (λ (m : Mended). m .file) whole
-        ∙ sym (append-assoc (one .file) (two .file ++ three .file) (rest .file)
-        ∙ ap (λ (l : List ℕ). one .file ++ l) (append-assoc (two .file) (three .file) (rest .file))),
+            ∙ sym (append-assoc (one .file) (two .file ++ three .file) (rest .file)
+            ∙ ap (λ (l : List ℕ). one .file ++ l) (append-assoc (two .file) (three .file) (rest .file))),
         ap (λ (m : Mended). m .list) whole
-        ∙ sym (append-assoc (one .list) (two .list ++ three .list) (rest .list)
-        ∙ ap (λ (l : List ℕ). one .list ++ l) (append-assoc (two .list) (three .list) (rest .list))),
+            ∙ sym (append-assoc (one .list) (two .list ++ three .list) (rest .list)
+            ∙ ap (λ (l : List ℕ). one .list ++ l) (append-assoc (two .list) (three .list) (rest .list))),
       )
 
   -- a good header: its three lines are long enough, and so are the texts

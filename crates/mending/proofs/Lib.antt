@@ -5,3 +5,5 @@ pub mod Unsaid
 pub mod HeaderTexts
 pub mod TextGives
 pub mod Walks
+pub mod Mends
+pub mod Rooms

@@ -5,3 +5,4 @@ pub mod Again
 pub mod ReadAgain
 pub mod Unsaid
 pub mod Walking
+pub mod Enough
