@@ -4,8 +4,11 @@ use Prim.Native.Nat.{ℕ}
 use Rattle.permit_file.specs.File.{openNumber, openPlace, stepNumber, stepValues, nextPlace, isEnd}
 use Rattle.permit_file.specs.declared.Opened.{Opened}
 use Rattle.permit_file.specs.declared.Step.{Step}
+use Rattle.mending.specs.declared.Answer.{Answer}
+use Rattle.mending.specs.declared.Answer.the-variants as mending
 use Rattle.lambukir.specs.declared.files.FileOpened.{FileOpened}
 use Rattle.lambukir.specs.declared.files.FileLineRead.{FileLineRead}
+use Rattle.lambukir.specs.declared.files.FileMended.{FileMended}
 
 -- a file that was opened: the place of the first line, or the refusal
 abbrev pub fileOpened : Opened → FileOpened
@@ -44,3 +47,8 @@ fileLineRead s = record {
   number = stepNumber s;
   end = endFlag s;
 }
+
+-- a file that was mended: both lengths, or the refusal
+abbrev pub fileMended : Answer → FileMended
+fileMended (mending.Done size) = record { length = size .file; list_length = size .list; number = 0 }
+fileMended (mending.Refused number) = record { length = 0; list_length = 0; number = number }

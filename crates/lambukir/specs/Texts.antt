@@ -5,9 +5,9 @@ use Prim.Native.Nat.{ℕ}
 use Rattle.spelling.specs.Spelling.{spelled}
 use Rattle.lambukir.specs.declared.texts.Text.{Text}
 
--- version 0.13.0: 10000 for the first number, 100 for the second, 1 for the third
+-- version 0.14.0: 10000 for the first number, 100 for the second, 1 for the third
 abbrev pub version : ℕ
-version = 1300
+version = 1400
 
 -- 1 where a test holds, and 0 else
 abbrev pub oneIf : Bool → ℕ

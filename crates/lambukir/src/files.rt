@@ -1,8 +1,12 @@
 // Permit files for C.
 ghost use mathlib.Core.Path.{_≡_};
+ghost use lib.ListN.{length};
 ghost use Rattle.permit_file.specs.File.{cursor, openOf, stepOf};
 ghost use Rattle.permit_file.specs.declared.Step.the-variants.{Record};
-ghost use Rattle.lambukir.specs.Files.{fileOpened, noRecord, fileLineRead};
+ghost use Rattle.mending.specs.Mending.{mending};
+ghost use Rattle.mending.specs.Answers.{answerOf, fileLent, listLent};
+ghost use Rattle.lambukir.specs.Files.{fileOpened, noRecord, fileLineRead, fileMended};
+use mending::Answer;
 use permit_file::Cursor;
 use permit_file::Opened;
 use permit_file::Step;
@@ -27,6 +31,14 @@ pub struct FileLineRead {
     pub server: u32,
     pub number: u32,
     pub end: u32,
+}
+
+// lambukir_mended of the header.
+#[repr(C)]
+pub struct FileMended {
+    pub length: u64,
+    pub list_length: u64,
+    pub number: u32,
 }
 
 fn no_record(next: usize, number: u32, end: u32) -> FileLineRead
@@ -99,4 +111,24 @@ pub extern "C" fn lambukir_read_file_line(
 {
     let cursor = Cursor { place };
     file_line_read(cursor.step(file, hw, today, days))
+}
+
+#[no_mangle]
+pub extern "C" fn lambukir_mend(file: &[u8], out: &mut [u8], list: &mut [u8]) -> FileMended
+    ensures { λ r. ⌜ (r ≡ fileMended (answerOf (mending (now (file .entry)) (length (now (out .entry))) (length (now (list .entry))))))
+        × ((now (out .exit) ≡ fileLent (mending (now (file .entry)) (length (now (out .entry))) (length (now (list .entry)))) (now (out .entry)))
+        × (now (list .exit) ≡ listLent (mending (now (file .entry)) (length (now (out .entry))) (length (now (list .entry)))) (now (list .entry)))) ⌝ }
+{
+    match mending::mend(file, out, list) {
+        Answer::Done(size) => FileMended {
+            length: size.file as u64,
+            list_length: size.list as u64,
+            number: 0,
+        },
+        Answer::Refused(number) => FileMended {
+            length: 0,
+            list_length: 0,
+            number,
+        },
+    }
 }

@@ -16,7 +16,7 @@ pub struct Text {
 pub extern "C" fn lambukir_version() -> u32
     ensures { λ r. ⌜ r ≡ version ⌝ }
 {
-    1300
+    1400
 }
 
 #[no_mangle]

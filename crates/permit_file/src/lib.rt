@@ -50,7 +50,7 @@ fn onward(line: Line, next: Cursor) -> Step
 }
 
 // Whether a file begins with a header.
-fn is_header(file: &[u8]) -> bool
+pub fn is_header(file: &[u8]) -> bool
     ensures { λ r. ⌜ r ≡ isHeader (now (file .entry)) ⌝ }
 {
     file_lines::is_dated(file) && text::reading::stands_at(b"\r\n:VERSION 2\r\n:ENC\r\n", file, 20)

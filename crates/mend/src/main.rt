@@ -1,0 +1,44 @@
+// The program mend: reads a mailed permit file, writes it mended to standard output, and to standard error what was wrong with it.
+use libc::STDERR_FILENO;
+use libc::STDIN_FILENO;
+use libc::STDOUT_FILENO;
+use mending::Answer;
+
+// Writes the first bytes of an output.
+fn write_start(stream: i32, out: &[u8], size: usize) {
+    if size <= out.len() {
+        io::write_all(stream, &out[..size]);
+    }
+}
+
+// Writes both where the list has 32,768 bytes or fewer, and says whether it did.
+fn write_usual(input: &[u8], out: &mut [u8]) -> bool {
+    let mut list = [0u8; 32768];
+    match mending::print(input, out, &mut list) {
+        Answer::Done(size) => {
+            write_start(STDOUT_FILENO, out, size.file);
+            write_start(STDERR_FILENO, &list, size.list);
+            true
+        }
+        Answer::Refused(_) => false,
+    }
+}
+
+// Writes both for any input: 80,000 and 721,000 bytes are always enough (the law room-enough), and clearing them takes long.
+fn write_any(input: &[u8], out: &mut [u8]) {
+    let mut list = [0u8; 721000];
+    if let Answer::Done(size) = mending::print(input, out, &mut list) {
+        write_start(STDOUT_FILENO, out, size.file);
+        write_start(STDERR_FILENO, &list, size.list);
+    }
+}
+
+// The input has one byte more than is taken, so that one that is too long is seen to be.
+fn main() {
+    let mut input = [0u8; 65537];
+    let mut out = [0u8; 80000];
+    let n = io::read_full(STDIN_FILENO, &mut input);
+    if !write_usual(&input[..n], &mut out) {
+        write_any(&input[..n], &mut out);
+    }
+}
