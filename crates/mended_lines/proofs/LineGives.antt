@@ -66,10 +66,8 @@ module _ (count : ℕ) (text : List ℕ) (n k : ℕ) (sizes : Measured text n k)
   out-gives after = ap (λ (l : List ℕ). gives [] (outSaid count l) true) (sym (line-taken text n (sizes .0)))
 
   -- what becomes of it is told of its start in the text
-  pub fate-gives : (after : List ℕ) (told fate : Fate) → told ≡ fateOf (take k text) → told ≡ fate
-      → givesBy (fateOf (unblanked (lineOf text))) count text after ≡ givesBy fate count text after
-  fate-gives after told fate is found =
-      ap (λ (f : Fate). givesBy f count text after) (ap fateOf (sym (mended-taken text n k sizes)) ∙ sym is ∙ found)
+  pub fate-shown : (told fate : Fate) → told ≡ fateOf (take k text) → told ≡ fate → fateOf (unblanked (lineOf text)) ≡ fate
+  fate-shown told fate is found = ap fateOf (sym (mended-taken text n k sizes)) ∙ sym is ∙ found
 
 -- what no LF ends
 module _ (count : ℕ) where
