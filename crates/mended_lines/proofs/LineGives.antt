@@ -5,6 +5,7 @@ use mathlib.Core.Bool.{Bool, true, false, not}
 use mathlib.Core.List.{List, [], _∷_, _++_}
 use Prim.Native.Nat.{ℕ, suc, _+_}
 use native.Mathlib.Numerals.{add-one}
+use native.Mathlib.Omega.{arith}
 use lib.Dec.{eqb, ltb}
 use lib.ListN.{length, take}
 use Rattle.text.specs.Ascii.{ascii}
@@ -19,6 +20,7 @@ use Rattle.mailed_lines.specs.declared.Fate.{Fate}
 use Rattle.mailed_lines.specs.declared.Fate.the-variants.{Kept, Last, Out}
 use Rattle.mailed_lines.proofs.Fates.{ecs-raised}
 use Rattle.mended_lines.specs.Gives.{Gives, headerGives, givesBy, unendedGives}
+use Rattle.mended_lines.specs.Giving.{addedSaid}
 use Rattle.mended_lines.proofs.MeasuredLines.{Measured, line-taken, left-taken, mended-taken, faults-shown, all-faults-shown}
 
 -- what is put into the file and into the list
@@ -71,18 +73,31 @@ module _ (count : ℕ) (text : List ℕ) (n k : ℕ) (sizes : Measured text n k)
 
 -- what no LF ends
 module _ (count : ℕ) where
-  -- nothing
-  pub none-gives : (line : List ℕ) → length line ≡ 0 → unendedGives count line ≡ gives (ecs ++ lineEnd) (numeral count ++ ascii " ECS\n") false
-  unfolding unendedGives said
-  none-gives [] none = refl
-  none-gives (c ∷ line) none = cc
+  -- the list's lines where :ECS is added: nothing was there
+  pub none-said : (line : List ℕ) → length line ≡ 0 → addedSaid count line ≡ numeral count ++ ascii " ECS\n"
+  unfolding addedSaid said
+  none-said [] none = refl
+  none-said (c ∷ line) none = absurd (omega arith)
+
+  -- or a line that is left out
+  pub some-said : (line : List ℕ) → (length line ≡ 0 → ⊥) → addedSaid count line ≡ outSaid count line ++ (numeral (count + 1) ++ ascii " ECS\n")
+  unfolding addedSaid said
+  some-said [] some = absurd (some refl)
+  some-said (c ∷ line) some = rw add-one
+
+  module _ (line : List ℕ) (n k : ℕ) (all : n ≡ length line) (left : k ≡ length (unblanked line)) where
+    -- whether it is :ECS is told of its start
+    pub ecs-shown : (told test : Bool) → told ≡ isEcs (take k line) → told ≡ test → isEcs (unblanked line) ≡ test
+    ecs-shown told test is found = ap isEcs (sym (left-taken line n k all left)) ∙ sym is ∙ found
+
+    pub left-counted : k ≡ length (take k line)
+    left-counted = left ∙ sym (ap length (left-taken line n k all left))
 
   -- what is not :ECS
-  pub other-gives : (line : List ℕ) → (length line ≡ 0 → ⊥) → isEcs (unblanked line) ≡ false
-      → unendedGives count line ≡ gives (ecs ++ lineEnd) (outSaid count line ++ (numeral (count + 1) ++ ascii " ECS\n")) false
-  unfolding unendedGives said
-  other-gives [] some other = absurd (some refl)
-  other-gives (c ∷ line) some other = rw (other, add-one)
+  pub added-gives : (line : List ℕ) → isEcs (unblanked line) ≡ false → unendedGives count line ≡ gives (ecs ++ lineEnd) (addedSaid count line) false
+  unfolding unendedGives addedSaid
+  added-gives [] other = refl
+  added-gives (c ∷ line) other = rw other
 
   -- :ECS
   pub ecs-gives : (line : List ℕ) (n k : ℕ) → n ≡ length line → k ≡ length (unblanked line) → isEcs (unblanked line) ≡ true

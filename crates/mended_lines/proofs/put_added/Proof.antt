@@ -1,85 +1,91 @@
--- `mended_lines::put_added` meets its contract.
+-- `mended_lines::put_added` meets its contract: the line that is left out, if there is one, and :ECS.
 -- Assumes nothing.
+use mathlib.Core.List.{_++_}
+use Prim.Native.Nat.{_+_}
 use borrow.Author.Needs.{needs}
+use Rattle.text.specs.Ascii.{ascii}
+use Rattle.text.specs.Texts.{numeral}
+use Rattle.mailed_lines.specs.Saying.{outSaid}
+use Rattle.mailed_lines.proofs.Puts.{takes-first, takes-next, put-both}
+use Rattle.mended_lines.proofs.LinePuts.{same-takes, same-put}
+use Rattle.mended_lines.proofs.LineGives.{none-said, some-said}
 use Rattle.mended_lines.proofs.put_added.Statement.{statement}
 use Rattle.mended_lines.proofs.put_added.Tie as tie
-use Rattle.mended_lines.proofs.put_added.Reads as reads
-use Rattle.mended_lines.proofs.put_added.Lts as lts
-use Rattle.mailed_lines.proofs.saying.put_counted.Reads as put-counted-reads
-use Rattle.mailed_lines.proofs.saying.put_out.Reads as put-out-reads
-use Rattle.mended_lines.proofs.put_line.Reads as put-line-reads
 
--- src/lib.rt:160:39
-slice-aggregate-put-line : tie.Need-slice-aggregate-put-line
-slice-aggregate-put-line c = search needs
-
--- src/lib.rt:160:9
-put-line-requires : tie.Need-put-line-requires
-put-line-requires c κs = ?
-
--- src/lib.rt:162:75
 slice-aggregate-put-counted : tie.Need-slice-aggregate-put-counted
 slice-aggregate-put-counted c = search needs
 
--- src/lib.rt:162:13
 put-counted-requires : tie.Need-put-counted-requires
-put-counted-requires c κs = ?
+put-counted-requires c κs =
+    let none = c .before .before in
+    let start = none .before .before .before in
+    let args = start .args in
+    same-takes _ _ (none-said (args .count) (args .line .now) (none .if1 .taken)) (args .at) (args .list .now) (start .pre .1)
 
--- src/lib.rt:163:9
 same-length : tie.Need-same-length
 same-length c = search needs
 
--- src/lib.rt:163:9
-same-length-2 : tie.Need-same-length-2
-same-length-2 c = search needs
-
--- src/lib.rt:163:9
 returns : tie.Need-returns
-returns c = ?
+returns c =
+    let end = c .before .before in
+    let none = end .before .before .before in
+    let start = none .before .before .before in
+    let args = start .args in
+    same-put _ _ (none-said (args .count) (args .line .now) (none .if1 .taken)) (args .at) (args .list .now)
+    (end .put-counted .result) (end .put-counted .last .0) (end .put-counted .ensures)
 
--- src/lib.rt:169:9
 put-out-requires : tie.Need-put-out-requires
-put-out-requires c κs = ?
+put-out-requires c κs =
+    let some = c .before in
+    let start = some .before .before .before in
+    let args = start .args in
+    takes-first (args .at) (outSaid (args .count) (args .line .now)) (numeral (args .count + 1) ++ ascii " ECS\n") (args .list .now)
+    (same-takes _ _ (some-said (args .count) (args .line .now) (some .if1 .left)) (args .at) (args .list .now) (start .pre .1))
 
--- src/lib.rt:170:61
 add-put-counted : tie.Need-add-put-counted
 add-put-counted c = search needs
 
--- src/lib.rt:170:72
 slice-aggregate-put-counted-2 : tie.Need-slice-aggregate-put-counted-2
 slice-aggregate-put-counted-2 c = search needs
 
--- src/lib.rt:170:9
 put-counted-requires-2 : tie.Need-put-counted-requires-2
-put-counted-requires-2 c κs = ?
+put-counted-requires-2 c κs =
+    let out = c .before .before .before .before in
+    let some = out .before .before in
+    let start = some .before .before .before in
+    let args = start .args in
+    takes-next (args .at) (outSaid (args .count) (args .line .now)) (numeral (args .count + 1) ++ ascii " ECS\n") (args .list .now)
+    (same-takes _ _ (some-said (args .count) (args .line .now) (some .if1 .left)) (args .at) (args .list .now) (start .pre .1))
+    (out .put-out .result) (out .put-out .last .0) (out .put-out .ensures)
 
--- src/lib.rt:153:1
-same-length-3 : tie.Need-same-length-3
-same-length-3 c = search needs
+same-length-2 : tie.Need-same-length-2
+same-length-2 c = search needs
 
--- src/lib.rt:153:1
-same-length-4 : tie.Need-same-length-4
-same-length-4 c = search needs
-
--- src/lib.rt:153:1
 returns-2 : tie.Need-returns-2
-returns-2 c = ?
+returns-2 c =
+    let end = c .before .before in
+    let out = end .before .before .before .before .before in
+    let some = out .before .before in
+    let start = some .before .before .before in
+    let args = start .args in
+    let is = some-said (args .count) (args .line .now) (some .if1 .left) in
+    same-put _ _ is (args .at) (args .list .now) (end .put-counted2 .result) (end .put-counted2 .last .0)
+    (put-both (args .at) (outSaid (args .count) (args .line .now)) (numeral (args .count + 1) ++ ascii " ECS\n") (args .list .now)
+    (same-takes _ _ is (args .at) (args .list .now) (start .pre .1))
+    (out .put-out .result) (end .put-counted2 .result) (out .put-out .last .0) (end .put-counted2 .last .0)
+    (out .put-out .ensures) (end .put-counted2 .ensures))
 
 pub put-added-spec : {M : Type 1} → statement M
 put-added-spec =
     tie.close
     (tie.spec
-    slice-aggregate-put-line
-    put-line-requires
     slice-aggregate-put-counted
     put-counted-requires
     same-length
-    same-length-2
     returns
     put-out-requires
     add-put-counted
     slice-aggregate-put-counted-2
     put-counted-requires-2
-    same-length-3
-    same-length-4
+    same-length-2
     returns-2)
