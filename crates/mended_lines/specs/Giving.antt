@@ -1,8 +1,10 @@
 -- What a line gives, put into two outputs. For contracts inside the crate and above.
-use mathlib.Core.List.{List}
-use Prim.Native.Nat.{ℕ, _+_}
+use mathlib.Core.List.{List, [], _∷_, _++_}
+use Prim.Native.Nat.{ℕ, suc, _+_}
 use lib.ListN.{length}
+use Rattle.text.specs.Ascii.{ascii}
 use Rattle.text.specs.Texts.{placed}
+use Rattle.mailed_lines.specs.Saying.{said, outSaid}
 use Rattle.mailed_lines.specs.Putting.{Takes}
 use Rattle.mended_lines.specs.Gives.{Gives}
 use Rattle.mended_lines.specs.declared.Places.{Places}
@@ -22,3 +24,8 @@ outAfter g at out = placed (at .file) (g .file) out
 
 abbrev pub listAfter : Gives → Places → List ℕ → List ℕ
 listAfter g at list = placed (at .list) (g .list) list
+
+-- what the list says where :ECS is added: the line that is left out, if it has any byte, and :ECS
+unfoldable pub addedSaid : ℕ → List ℕ → List ℕ
+addedSaid count [] = said count (ascii "ECS")
+addedSaid count (c ∷ line) = outSaid count (c ∷ line) ++ said (suc count) (ascii "ECS")

@@ -1,7 +1,7 @@
 // What each line of a mailed permit file gives: its part of the mended file and its part of the list, put after those before it.
 // An empty output takes nothing: then the places alone are told, and a text's length is measured without an output.
 ghost use mathlib.Core.Path.{_≡_};
-ghost use mathlib.Core.Bool.{true, false};
+ghost use mathlib.Core.Bool.{true};
 ghost use mathlib.Core.List.{[], _++_};
 ghost use Prim.Native.Nat.{_+_, _<_, _^_};
 ghost use lib.ListN.{length};
@@ -12,7 +12,7 @@ ghost use Rattle.mailed_lines.specs.Mailed.{lineOf, unblanked, isEcs, fateOf};
 ghost use Rattle.mailed_lines.specs.Putting.{Takes};
 ghost use Rattle.mailed_lines.specs.declared.Fate.the-variants.{Kept, Last};
 ghost use Rattle.mended_lines.specs.Gives.{headerGives, givesBy, unendedGives};
-ghost use Rattle.mended_lines.specs.Giving.{Room, given, outAfter, listAfter};
+ghost use Rattle.mended_lines.specs.Giving.{Room, given, outAfter, listAfter, addedSaid};
 use mailed_lines::Fate;
 
 // Where the next texts are put, in the mended file and in the list.
@@ -149,30 +149,17 @@ pub fn put_ended(
     }
 }
 
-// What no LF ends, where it is not :ECS: a line that is left out, if it has any byte, and :ECS is added.
-fn put_added(line: &[u8], count: u64, out: &mut [u8], list: &mut [u8], at: Places) -> Given
-    requires { ⌜ (count + 1 < 2 ^ 64) × (isEcs (unblanked (now line)) ≡ false) ⌝ }
-    requires { ⌜ Room (unendedGives count (now line)) at (now out) (now list) ⌝ }
-    ensures { λ r. ⌜ (r ≡ given (unendedGives count (now (line .entry))) at)
-        × ((now (out .exit) ≡ outAfter (unendedGives count (now (line .entry))) at (now (out .entry)))
-        × (now (list .exit) ≡ listAfter (unendedGives count (now (line .entry))) at (now (list .entry)))) ⌝ }
+// What the list says where :ECS is added: the line that is left out, if it has any byte, and :ECS.
+fn put_added(list: &mut [u8], at: usize, count: u64, line: &[u8]) -> usize
+    requires { ⌜ count + 1 < 2 ^ 64 ⌝ }
+    requires { ⌜ Takes at (addedSaid count (now line)) (now list) ⌝ }
+    ensures { λ r. ⌜ (r ≡ at + length (addedSaid count (now (line .entry)))) × (now (list .exit) ≡ placed at (addedSaid count (now (line .entry))) (now (list .entry))) ⌝ }
 {
-    let file = put_line(out, at.file, b":ECS");
     if line.len() == 0 {
-        let end = mailed_lines::saying::put_counted(list, at.list, count, b" ECS\n");
-        return Given {
-            file,
-            list: end,
-            more: false,
-        };
+        return mailed_lines::saying::put_counted(list, at, count, b" ECS\n");
     }
-    let next = mailed_lines::saying::put_out(list, at.list, count, line);
-    let end = mailed_lines::saying::put_counted(list, next, count + 1, b" ECS\n");
-    Given {
-        file,
-        list: end,
-        more: false,
-    }
+    let next = mailed_lines::saying::put_out(list, at, count, line);
+    mailed_lines::saying::put_counted(list, next, count + 1, b" ECS\n")
 }
 
 // What no LF ends.
@@ -185,7 +172,11 @@ pub fn put_unended(line: &[u8], count: u64, out: &mut [u8], list: &mut [u8], at:
 {
     let k = mailed_lines::unblanked_length(line);
     if !mailed_lines::is_ecs(&line[..k]) {
-        return put_added(line, count, out, list, at);
+        return Given {
+            file: put_line(out, at.file, b":ECS"),
+            list: put_added(list, at.list, count, line),
+            more: false,
+        };
     }
     let case = !mailed_lines::is_raised(&line[..k]);
     text::writing::put_text(out, at.file, b":ECS");

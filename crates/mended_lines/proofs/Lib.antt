@@ -1,0 +1,4 @@
+pub mod LinePuts
+pub mod BothPut
+pub mod MeasuredLines
+pub mod LineGives

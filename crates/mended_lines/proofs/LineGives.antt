@@ -1,0 +1,112 @@
+-- What each line gives, as the code has it: by the line's lengths, by what it knows of its letters, and by what becomes of it.
+-- Assumes nothing.
+use mathlib.Core.Path.{_≡_, refl, sym, ap, ap₂, _∙_}
+use mathlib.Core.Bool.{Bool, true, false, not}
+use mathlib.Core.List.{List, [], _∷_, _++_}
+use Prim.Native.Nat.{ℕ, suc, _+_}
+use native.Mathlib.Numerals.{add-one}
+use native.Mathlib.Omega.{arith}
+use lib.Dec.{eqb, ltb}
+use lib.ListN.{length, take}
+use Rattle.text.specs.Ascii.{ascii}
+use Rattle.text.specs.Characters.{raisedText}
+use Rattle.text.specs.Texts.{sameText, numeral}
+use Rattle.text.proofs.SameTexts.{same-refl}
+use Rattle.cell_permit.specs.CellPermit.{lineEnd}
+use Rattle.file_lines.specs.Lines.{ecs}
+use Rattle.mailed_lines.specs.Mailed.{lineOf, unblanked, isEcs, fateOf}
+use Rattle.mailed_lines.specs.Saying.{said, faultsSaid, outSaid}
+use Rattle.mailed_lines.specs.declared.Fate.{Fate}
+use Rattle.mailed_lines.specs.declared.Fate.the-variants.{Kept, Last, Out}
+use Rattle.mailed_lines.proofs.Fates.{ecs-raised}
+use Rattle.mended_lines.specs.Gives.{Gives, headerGives, givesBy, unendedGives}
+use Rattle.mended_lines.specs.Giving.{addedSaid}
+use Rattle.mended_lines.proofs.MeasuredLines.{Measured, line-taken, left-taken, mended-taken, faults-shown, all-faults-shown}
+
+-- what is put into the file and into the list
+abbrev pub gives : List ℕ → List ℕ → Bool → Gives
+gives file list more = record { file = file; list = list; more = more }
+
+-- a line's letters, as its start in the text shows them
+module _ (line start : List ℕ) (is : start ≡ line) (raised : Bool) (told : raised ≡ sameText (raisedText start) start) where
+  case-shown : not raised ≡ not (sameText (raisedText line) line)
+  case-shown = ap not (told ∙ ap (λ (l : List ℕ). sameText (raisedText l) l) is)
+
+  -- those of :ECS
+  ecs-case-shown : isEcs line ≡ true → not raised ≡ not (sameText ecs line)
+  ecs-case-shown ended = case-shown ∙ ap (λ (l : List ℕ). not (sameText l line)) (ecs-raised line ended)
+
+module _ (count : ℕ) (text : List ℕ) (n k : ℕ) (sizes : Measured text n k) where
+  -- one of the first three
+  pub header-gives : (raised : Bool) → raised ≡ sameText (raisedText (take k text)) (take k text)
+      → headerGives count text ≡ gives (raisedText (take k text) ++ lineEnd) (faultsSaid (eqb n (length text)) (ltb k n) (not raised) count) true
+  unfolding headerGives
+  header-gives raised told =
+      ap₂ (λ (f l : List ℕ). gives f l true)
+      (ap (λ (l : List ℕ). raisedText l ++ lineEnd) (sym (mended-taken text n k sizes)))
+      (all-faults-shown text n k sizes (not raised) count (raisedText (unblanked (lineOf text)))
+      (case-shown (unblanked (lineOf text)) (take k text) (mended-taken text n k sizes) raised told))
+
+  -- one that is kept: no letter is raised
+  pub kept-gives : givesBy Kept count text [] ≡ gives (take k text ++ lineEnd) (faultsSaid (eqb n (length text)) (ltb k n) false count) true
+  kept-gives =
+      ap₂ (λ (f l : List ℕ). gives f l true)
+      (ap (λ (l : List ℕ). l ++ lineEnd) (sym (mended-taken text n k sizes)))
+      (all-faults-shown text n k sizes false count (unblanked (lineOf text)) (sym (ap not (same-refl (unblanked (lineOf text))))))
+
+  -- :ECS
+  pub last-gives : (after : List ℕ) → isEcs (unblanked (lineOf text)) ≡ true
+      → (raised : Bool) → raised ≡ sameText (raisedText (take k text)) (take k text)
+      → givesBy Last count text after ≡ gives ((ecs ++ lineEnd) ++ after) (faultsSaid (eqb n (length text)) (ltb k n) (not raised) count) false
+  last-gives after ended raised told =
+      ap (λ (l : List ℕ). gives ((ecs ++ lineEnd) ++ after) l false)
+      (all-faults-shown text n k sizes (not raised) count ecs
+      (ecs-case-shown (unblanked (lineOf text)) (take k text) (mended-taken text n k sizes) raised told ended))
+
+  -- one that is left out
+  pub out-gives : (after : List ℕ) → givesBy Out count text after ≡ gives [] (outSaid count (take n text)) true
+  out-gives after = ap (λ (l : List ℕ). gives [] (outSaid count l) true) (sym (line-taken text n (sizes .0)))
+
+  -- what becomes of it is told of its start in the text
+  pub fate-shown : (told fate : Fate) → told ≡ fateOf (take k text) → told ≡ fate → fateOf (unblanked (lineOf text)) ≡ fate
+  fate-shown told fate is found = ap fateOf (sym (mended-taken text n k sizes)) ∙ sym is ∙ found
+
+-- what no LF ends
+module _ (count : ℕ) where
+  -- the list's lines where :ECS is added: nothing was there
+  pub none-said : (line : List ℕ) → length line ≡ 0 → addedSaid count line ≡ numeral count ++ ascii " ECS\n"
+  unfolding addedSaid said
+  none-said [] none = refl
+  none-said (c ∷ line) none = absurd (omega arith)
+
+  -- or a line that is left out
+  pub some-said : (line : List ℕ) → (length line ≡ 0 → ⊥) → addedSaid count line ≡ outSaid count line ++ (numeral (count + 1) ++ ascii " ECS\n")
+  unfolding addedSaid said
+  some-said [] some = absurd (some refl)
+  some-said (c ∷ line) some = rw add-one
+
+  module _ (line : List ℕ) (n k : ℕ) (all : n ≡ length line) (left : k ≡ length (unblanked line)) where
+    -- whether it is :ECS is told of its start
+    pub ecs-shown : (told test : Bool) → told ≡ isEcs (take k line) → told ≡ test → isEcs (unblanked line) ≡ test
+    ecs-shown told test is found = ap isEcs (sym (left-taken line n k all left)) ∙ sym is ∙ found
+
+    pub left-counted : k ≡ length (take k line)
+    left-counted = left ∙ sym (ap length (left-taken line n k all left))
+
+  -- what is not :ECS
+  pub added-gives : (line : List ℕ) → isEcs (unblanked line) ≡ false → unendedGives count line ≡ gives (ecs ++ lineEnd) (addedSaid count line) false
+  unfolding unendedGives addedSaid
+  added-gives [] other = refl
+  added-gives (c ∷ line) other = rw other
+
+  -- :ECS
+  pub ecs-gives : (line : List ℕ) (n k : ℕ) → n ≡ length line → k ≡ length (unblanked line) → isEcs (unblanked line) ≡ true
+      → (raised : Bool) → raised ≡ sameText (raisedText (take k line)) (take k line)
+      → unendedGives count line ≡ gives ecs (faultsSaid false (ltb k n) (not raised) count) false
+  unfolding unendedGives isEcs unblanked sameText
+  ecs-gives [] n k all left ended raised told = cc
+  ecs-gives (c ∷ line) n k all left ended raised told =
+      rw ended
+      (ap (λ (l : List ℕ). gives ecs l false)
+      (faults-shown (c ∷ line) n k all left false (not raised) count ecs
+      (ecs-case-shown (unblanked (c ∷ line)) (take k (c ∷ line)) (left-taken (c ∷ line) n k all left) raised told ended)))
