@@ -5,7 +5,7 @@ use mathlib.Core.Bool.{Bool, true, false, cond, _&&_}
 use mathlib.Core.List.{List, [], _∷_, _++_, append-assoc}
 use Prim.Native.Nat.{ℕ, suc, _+_, _-_, _≤_, _<_}
 use native.Mathlib.Omega.{arith}
-use borrow.Author.Tests.{lt-ltb, ltb-true, ltb-false}
+use borrow.Author.Tests.{le-ltb, lt-ltb, ltb-true, ltb-false}
 use lib.Dec.{ltb}
 use lib.ListN.{length, take, drop, length-append, length-take, length-drop, length-map}
 use lib.Seq.{take-append-le}
@@ -218,3 +218,47 @@ module _ (file : List ℕ) where
 
       third : ℕ
       third = textEnds file (textEnds file (textEnds file 0 + 1) + 1)
+
+-- the ends as they are looked for, one after the other
+module _ (file : List ℕ) (first : ℕ) (one : first ≡ textEnds file 0) where
+  pub stop-first : first ≡ length file → headerEnds file ≡ Fewer
+  unfolding headerEnds endsOf
+  stop-first whole = rw (← one, le-ltb first (length file) (omega (arith, whole)))
+
+  module _ (more : first ≡ length file → ⊥) where
+    pub first-within : first + 1 ≤ length file
+    first-within = omega (arith, one, text-ends-within file 0 (omega arith))
+
+    module _ (second : ℕ) (two : second ≡ textEnds file (first + 1)) where
+      pub stop-second : second ≡ length file → headerEnds file ≡ Fewer
+      unfolding headerEnds endsOf
+      stop-second whole = rw (← one, ← two, le-ltb second (length file) (omega (arith, whole)), lt-ltb first (length file) (omega (arith, first-within)))
+
+      module _ (further : second ≡ length file → ⊥) where
+        pub second-within : second + 1 ≤ length file
+        second-within = omega (arith, two, text-ends-within file (first + 1) first-within)
+
+        module _ (third : ℕ) (three : third ≡ textEnds file (second + 1)) where
+          pub stop-third : third ≡ length file → headerEnds file ≡ Fewer
+          unfolding headerEnds endsOf
+          stop-third whole =
+              rw (
+                ← one,
+                ← two,
+                ← three,
+                le-ltb third (length file) (omega (arith, whole)),
+                lt-ltb first (length file) (omega (arith, first-within)),
+                lt-ltb second (length file) (omega (arith, second-within)),
+              )
+
+          pub found-three : (third ≡ length file → ⊥) → headerEnds file ≡ Three (record { first = first; second = second; third = third })
+          unfolding headerEnds endsOf
+          found-three last =
+              rw (
+                ← one,
+                ← two,
+                ← three,
+                lt-ltb third (length file) (omega (arith, three, text-ends-within file (second + 1) second-within)),
+                lt-ltb first (length file) (omega (arith, first-within)),
+                lt-ltb second (length file) (omega (arith, second-within)),
+              )

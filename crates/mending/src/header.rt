@@ -54,18 +54,21 @@ pub(crate) fn put_header(file: &[u8], e: Ends, out: &mut [u8], list: &mut [u8]) 
         × ((now (out .exit) ≡ placed 0 (headerOf (now (file .entry)) e .file) (now (out .entry)))
         × (now (list .exit) ≡ placed 0 (headerOf (now (file .entry)) e .list) (now (list .entry)))) ⌝ }
 {
+    let first = e.first;
+    let second = e.second;
+    let third = e.third;
     let start = Places { file: 0, list: 0 };
-    let one = put_header_line(&file[..e.first], 1, out, list, start);
-    let second = Places {
+    let one = put_header_line(&file[..first], 1, out, list, start);
+    let after_one = Places {
         file: one.file,
         list: one.list,
     };
-    let two = put_header_line(&file[e.first + 1..e.second], 2, out, list, second);
-    let third = Places {
+    let two = put_header_line(&file[first + 1..second], 2, out, list, after_one);
+    let after_two = Places {
         file: two.file,
         list: two.list,
     };
-    let three = put_header_line(&file[e.second + 1..e.third], 3, out, list, third);
+    let three = put_header_line(&file[second + 1..third], 3, out, list, after_two);
     Places {
         file: three.file,
         list: three.list,

@@ -38,7 +38,12 @@ fn mend_good(file: &[u8], e: Ends, out: &mut [u8], list: &mut [u8]) -> Answer
         list: list.len(),
     };
     let place = e.third + 1;
-    if let Answer::Refused(number) = walking::measure(file, place, header::header_sizes(file, e), room) {
+    if let Answer::Refused(number) = walking::measure(
+        file,
+        place,
+        header::header_sizes(file, e),
+        room,
+    ) {
         return Answer::Refused(number);
     }
     let at = header::put_header(file, e, out, list);

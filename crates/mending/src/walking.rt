@@ -23,7 +23,15 @@ pub(crate) struct Going {
 }
 
 // Puts what the text at a place gives, which ends at end.
-fn give(file: &[u8], place: usize, end: usize, count: u64, out: &mut [u8], list: &mut [u8], at: Places) -> Given
+fn give(
+    file: &[u8],
+    place: usize,
+    end: usize,
+    count: u64,
+    out: &mut [u8],
+    list: &mut [u8],
+    at: Places,
+) -> Given
     requires { ⌜ (place ≤ length (now file)) × (end ≡ textEnds (now file) place) ⌝ }
     requires { ⌜ count + 1 < 2 ^ 64 ⌝ }
     requires { ⌜ Room (givesAt (now file) place count) at (now out) (now list) ⌝ }
@@ -71,7 +79,14 @@ fn fits(size: Lengths, room: Lengths) -> bool
 }
 
 // Puts what every text from a place on gives, after what the header gave; answers how long both are then, or 108 where that is more than their room.
-pub(crate) fn walk(file: &[u8], place: usize, out: &mut [u8], list: &mut [u8], at: Places, room: Lengths) -> Answer
+pub(crate) fn walk(
+    file: &[u8],
+    place: usize,
+    out: &mut [u8],
+    list: &mut [u8],
+    at: Places,
+    room: Lengths,
+) -> Answer
     requires { ⌜ Walkable (now file) place at room (now out) (now list) ⌝ }
     ensures { λ r. ⌜ (r ≡ answered room (sizeAfter at (laterOf (now (file .entry)) place)))
         × ((now (out .exit) ≡ placed (at .file) (laterOf (now (file .entry)) place .file) (now (out .entry)))
@@ -85,7 +100,13 @@ pub(crate) fn walk(file: &[u8], place: usize, out: &mut [u8], list: &mut [u8], a
         more: true,
     };
     while t.more {
-        if !fits(Lengths { file: t.file, list: t.list }, room) {
+        if !fits(
+            Lengths {
+                file: t.file,
+                list: t.list,
+            },
+            room,
+        ) {
             return Answer::Refused(108);
         }
         t = turn(file, out, list, t);
