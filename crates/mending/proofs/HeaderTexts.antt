@@ -1,7 +1,7 @@
 -- The first three texts of a file, by their ends: what they give before the rest, and when they are a good header.
 -- Assumes nothing.
 use mathlib.Core.Path.{_≡_, refl, sym, ap, ap₂, subst, _∙_}
-use mathlib.Core.Bool.{Bool, true, false, cond, _&&_}
+use mathlib.Core.Bool.{Bool, true, false, cond, not, _&&_}
 use mathlib.Core.List.{List, [], _∷_, _++_, append-assoc}
 use Prim.Native.Nat.{ℕ, suc, _+_, _-_, _≤_, _<_}
 use native.Mathlib.Omega.{arith}
@@ -10,14 +10,17 @@ use lib.Dec.{ltb}
 use lib.ListN.{length, take, drop, length-append, length-take, length-drop, length-map}
 use lib.Seq.{take-append-le}
 use Rattle.bytes.proofs.Every.{either, never-both, and-first, and-second}
-use Rattle.text.specs.Characters.{raised}
+use Rattle.text.specs.Characters.{raised, raisedText}
+use Rattle.text.specs.Texts.{sameText}
+use Rattle.text.proofs.Numerals.{width-at-most}
 use Rattle.cell_permit.specs.CellPermit.{lineEnd}
 use Rattle.permit_file.specs.File.{isHeader, firstPlace}
 use Rattle.permit_file.proofs.Headers.{header-within, header-first}
 use Rattle.mailed_lines.specs.Texts.{textsOf, textEnds}
-use Rattle.mailed_lines.specs.Mailed.{lineOf, unblanked}
+use Rattle.mailed_lines.specs.Mailed.{endsInCr, lineOf, unblanked}
 use Rattle.mailed_lines.proofs.CutTexts.{AllWithout, firstOf, restOf, never-empty, text-begins, text-ends-within, last-text-at, first-text-at, texts-without}
 use Rattle.mailed_lines.proofs.Lines.{line-short, unblanked-short}
+use Rattle.mailed_lines.proofs.SaidTexts.{faults-length}
 use Rattle.mended_lines.specs.Gives.{headerGives}
 use Rattle.mending.specs.Mending.{Mended, mendedFrom, mendedTexts, mendedOf, isMended}
 use Rattle.mending.specs.Walking.{endsOf, headerEnds, firstText, secondText, thirdText, headerOf, laterOf}
@@ -90,11 +93,9 @@ module _ (file : List ℕ) (e : Ends) (made : headerEnds file ≡ Three e) where
   three-texts =
       let is = ends in
       let within = found .1 in
-      let whole : first - 0 ≡ first = omega arith in
       rw (is .0, is .1 .0, is .1 .1)
       (first-text-at file 0 (within .0)
-      ∙ ap (λ (n : ℕ). take n file ∷ textsOf (drop (first + 1) file)) whole
-      ∙ ap (λ (l : List (List ℕ)). take first file ∷ l)
+      ∙ ap (λ (l : List (List ℕ)). take (first - 0) file ∷ l)
       (first-text-at file (first + 1) (within .1 .0)
       ∙ ap (λ (l : List (List ℕ)). take (second - (first + 1)) (drop (first + 1) file) ∷ l) (first-text-at file (second + 1) (within .1 .1))))
 
@@ -155,10 +156,30 @@ module _ (file : List ℕ) (e : Ends) (made : headerEnds file ≡ Three e) where
           line-no-longer (firstText file e),
           line-no-longer (secondText file e),
           line-no-longer (thirdText file e),
-          length-take (e .first) file,
+          length-take (e .first - 0) file,
           length-take (e .second - (e .first + 1)) (drop (e .first + 1) file),
           length-take (e .third - (e .second + 1)) (drop (e .second + 1) file),
         )
+
+  -- no more than the file's bytes, and two for each line
+  pub header-short : length (headerOf file e .file) ≤ length file + 6
+  unfolding headerOf headerGives
+  header-short =
+      omega (
+        arith,
+        ends-rise,
+        length-append (headerLine (firstText file e) ++ lineEnd) ((headerLine (secondText file e) ++ lineEnd) ++ (headerLine (thirdText file e) ++ lineEnd)),
+        length-append (headerLine (secondText file e) ++ lineEnd) (headerLine (thirdText file e) ++ lineEnd),
+        length-append (headerLine (firstText file e)) lineEnd,
+        length-append (headerLine (secondText file e)) lineEnd,
+        length-append (headerLine (thirdText file e)) lineEnd,
+        line-no-longer (firstText file e),
+        line-no-longer (secondText file e),
+        line-no-longer (thirdText file e),
+        length-take (e .first - 0) file,
+        length-take (e .second - (e .first + 1)) (drop (e .first + 1) file),
+        length-take (e .third - (e .second + 1)) (drop (e .second + 1) file),
+      )
 
   -- what has another size is none
   pub other-size : (length (headerOf file e .file) ≡ 40 → ⊥) → isMended file ≡ false
@@ -175,6 +196,32 @@ module _ (file : List ℕ) (e : Ends) (made : headerEnds file ≡ Three e) where
       (take-append-le 40 header rest (omega (arith, size)))
       (omega (arith, size, length-append header rest))
       (omega (arith, size))
+
+-- what is said of one of the header's three lines
+header-said : (n : ℕ) (text : List ℕ) → n < 10 → length (headerGives n text .list) ≤ 21
+unfolding headerGives
+header-said n text small =
+    let line = lineOf text in
+    omega (
+      arith,
+      faults-length (not (endsInCr text)) (not (sameText (unblanked line) line)) (not (sameText (raisedText (unblanked line)) (unblanked line))) n,
+      width-at-most n 1 (omega arith) (omega arith),
+    )
+
+pub header-list : (file : List ℕ) (e : Ends) → length (headerOf file e .list) ≤ 63
+unfolding headerOf
+header-list file e =
+    let one = headerGives 1 (firstText file e) in
+    let two = headerGives 2 (secondText file e) in
+    let three = headerGives 3 (thirdText file e) in
+    omega (
+      arith,
+      length-append (one .list) (two .list ++ three .list),
+      length-append (two .list) (three .list),
+      header-said 1 (firstText file e) (omega arith),
+      header-said 2 (secondText file e) (omega arith),
+      header-said 3 (thirdText file e) (omega arith),
+    )
 
 -- fewer texts are no good header
 fewer-texts : (texts : List (List ℕ)) → length texts ≤ 3 → isHeader (mendedTexts texts .file) ≡ false

@@ -3,6 +3,7 @@ pub mod GoodHeaders
 pub mod ReadAgain
 pub mod Unsaid
 pub mod HeaderTexts
+pub mod HeaderPuts
 pub mod TextGives
 pub mod Walks
 pub mod Mends

@@ -32,7 +32,7 @@ use Rattle.mending.specs.Walking.{headerEnds, firstText, secondText, thi
 use Rattle.mending.specs.declared.header.Ends.{Ends}
 use Rattle.mending.specs.declared.header.Header.{Header}
 use Rattle.mending.specs.declared.header.Header.the-variants.{Three, Fewer}
-use Rattle.mending.proofs.HeaderTexts.{fewer, ends-rise, header-and-later, good-size, good-place}
+use Rattle.mending.proofs.HeaderTexts.{header-list, fewer, ends-rise, header-and-later, good-size, good-place}
 
 -- the bytes of texts, one and more of which follow it
 joined-length : (text next : List ℕ) (rest : List (List ℕ)) → length (joined (text ∷ next ∷ rest)) ≡ length text + (1 + length (joined (next ∷ rest)))
@@ -164,32 +164,6 @@ module _ (file : List ℕ) (place : ℕ) (within : place ≤ length file) where
       omega (arith, ap (λ (l : List (List ℕ)). length (joined l)) (sym cut) ∙ left-length) in
       let all = texts-list 4 (firstOf (textsOf (drop place file))) (restOf (textsOf (drop place file))) few in
       rw (← cut, left-length) at all
-
--- what is said of one of the header's three lines
-header-said : (n : ℕ) (text : List ℕ) → n < 10 → length (headerGives n text .list) ≤ 21
-unfolding headerGives
-header-said n text small =
-    let line = lineOf text in
-    omega (
-      arith,
-      faults-length (not (endsInCr text)) (not (sameText (unblanked line) line)) (not (sameText (raisedText (unblanked line)) (unblanked line))) n,
-      width-at-most n 1 (omega arith) (omega arith),
-    )
-
-header-list : (file : List ℕ) (e : Ends) → length (headerOf file e .list) ≤ 63
-unfolding headerOf
-header-list file e =
-    let one = headerGives 1 (firstText file e) in
-    let two = headerGives 2 (secondText file e) in
-    let three = headerGives 3 (thirdText file e) in
-    omega (
-      arith,
-      length-append (one .list) (two .list ++ three .list),
-      length-append (two .list) (three .list),
-      header-said 1 (firstText file e) (omega arith),
-      header-said 2 (secondText file e) (omega arith),
-      header-said 3 (thirdText file e) (omega arith),
-    )
 
 module _ (file : List ℕ) (good : isMended file ≡ true) where
   file-by-header : (h : Header) → headerEnds file ≡ h → 5 * length (mendedOf file .file) ≤ 6 * length file + 8

@@ -9,6 +9,7 @@ use native.Mathlib.Omega.{arith}
 use borrow.Author.Tests.{ltb-true, ltb-false}
 use lib.Dec.{ltb}
 use lib.ListN.{length, take, drop, length-append, length-take, length-drop}
+use lib.Seq.{take-all}
 use Rattle.bytes.proofs.Every.{either, never-both}
 use Rattle.text.specs.Ascii.{ascii}
 use Rattle.text.specs.Texts.{width, sameText}
@@ -163,3 +164,18 @@ module _ (count wide : ℕ) (few : width count ≤ wide) (next : width (suc coun
           omega (arith, unended-file (drop place file)),
           omega (arith, unended-list (drop place file)),
         ))
+
+-- as the code has its texts: parts of the file, with the ends that it found
+module _ (file : List ℕ) (place end count : ℕ) (within : place ≤ length file) (is : end ≡ textEnds file place) where
+  pub unended-part : end ≡ length file → givesAt file place count ≡ unendedGives count (take (length file - place) (drop place file))
+  unended-part whole =
+      gives-last file place count within (sym is ∙ whole)
+      ∙ ap (unendedGives count) (sym (take-all (length file - place) (drop place file) (omega (arith, length-drop place file))))
+
+  pub ended-part : end < length file
+      → givesAt file place count
+      ≡ givesBy (fateOf (unblanked (lineOf (take (end - place) (drop place file))))) count (take (end - place) (drop place file))
+      (take (length file - (end + 1)) (drop (end + 1) file))
+  ended-part less =
+      rw (is, take-all (length file - (textEnds file place + 1)) (drop (textEnds file place + 1) file) (omega (arith, length-drop (textEnds file place + 1) file)))
+      (gives-ended file place count (omega (arith, is)))

@@ -19,8 +19,9 @@ use Rattle.mailed_lines.specs.Putting.{Takes}
 use Rattle.mailed_lines.proofs.CutTexts.{text-begins, text-ends-within}
 use Rattle.mailed_lines.proofs.Puts.{placed-empty, placed-both}
 use Rattle.mended_lines.specs.Gives.{Gives}
-use Rattle.mended_lines.specs.Giving.{Room, outAfter, listAfter}
+use Rattle.mended_lines.specs.Giving.{Room, given, outAfter, listAfter}
 use Rattle.mended_lines.specs.declared.Places.{Places}
+use Rattle.mended_lines.specs.declared.Given.{Given}
 use Rattle.mending.specs.Mending.{Mended, followed, nothing, mendedFrom}
 use Rattle.mending.specs.Walking.{givesAt, placesOf, turned, laterOf, fits, answered, sizeAfter, Walkable}
 use Rattle.mending.specs.declared.Answer.the-variants as answer
@@ -36,6 +37,13 @@ sum-fits a room whole place x more so-far room-small whole-small within short fe
 -- the lengths so far
 abbrev pub sizeSoFar : Going → Lengths
 sizeSoFar t = record { file = t .file; list = t .list }
+
+-- a turn by its parts
+pub turned-made : (file : List ℕ) (t : Going) (end : ℕ) (r : Given) → end ≡ textEnds file (t .place)
+    → r ≡ given (givesAt file (t .place) (t .count)) (placesOf t)
+    → record { place = end + 1; count = t .count + 1; file = r .file; list = r .list; more = r .more } ≡ turned file t
+unfolding turned
+turned-made file t end r found gave = rw (found, gave)
 
 module _ (file : List ℕ) (place : ℕ) (at : Places) (room : Lengths) (out₀ list₀ : List ℕ) where
   abbrev all : Mended
@@ -133,6 +141,10 @@ module _ (file : List ℕ) (place : ℕ) (at : Places) (room : Lengths) (out₀ 
         pub end-size : sizeSoFar t ≡ sizeAfter at all
         unfolding sizeAfter
         end-size = rw (went .file-at, went .list-at, all-given .0, all-given .1)
+
+        pub done-answer : fits (sizeSoFar t) room ≡ true → answer.Done (sizeSoFar t) ≡ answered room (sizeAfter at all)
+        unfolding answered
+        done-answer good = rw (← end-size, good)
 
         pub end-outputs : (out ≡ placed (at .file) (all .file) out₀) × (list ≡ placed (at .list) (all .list) list₀)
         end-outputs = (

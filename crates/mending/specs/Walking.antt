@@ -33,15 +33,23 @@ headerEnds file =
     (header.Three (endsOf file))
     header.Fewer
 
+-- the bytes between two places
+abbrev pub textBetween : List ℕ → ℕ → ℕ → List ℕ
+textBetween file from to = take (to - from) (drop from file)
+
 -- the three texts that end there
 abbrev pub firstText : List ℕ → Ends → List ℕ
-firstText file e = take (e .first) file
+firstText file e = textBetween file 0 (e .first)
 
 abbrev pub secondText : List ℕ → Ends → List ℕ
-secondText file e = take (e .second - (e .first + 1)) (drop (e .first + 1) file)
+secondText file e = textBetween file (e .first + 1) (e .second)
 
 abbrev pub thirdText : List ℕ → Ends → List ℕ
-thirdText file e = take (e .third - (e .second + 1)) (drop (e .second + 1) file)
+thirdText file e = textBetween file (e .second + 1) (e .third)
+
+-- the places after what a line gave
+abbrev pub placesAfter : Gives → Places → Places
+placesAfter g at = record { file = at .file + length (g .file); list = at .list + length (g .list) }
 
 -- what they give together
 unfoldable pub headerOf : List ℕ → Ends → Mended

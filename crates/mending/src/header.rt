@@ -1,14 +1,16 @@
 // The header of a mailed file: its first three lines, which mended must be a good one.
 ghost use mathlib.Core.Path.{_≡_};
+ghost use Prim.Native.Nat.{_≤_};
 ghost use lib.ListN.{length};
 ghost use Rattle.text.specs.Texts.{placed};
 ghost use Rattle.mailed_lines.specs.Putting.{Takes};
+ghost use Rattle.mended_lines.specs.Gives.{headerGives};
+ghost use Rattle.mended_lines.specs.Giving.{Room, outAfter, listAfter};
 ghost use Rattle.mending.specs.Mending.{isMended};
-ghost use Rattle.mending.specs.Walking.{headerEnds, headerOf, sizeOf};
+ghost use Rattle.mending.specs.Walking.{textBetween, placesAfter, headerEnds, headerOf, sizeOf};
 ghost use Rattle.mending.specs.declared.header.Header.the-variants.{Three};
 use mailed_lines::texts::text_ends;
 use mended_lines::Places;
-use mended_lines::put_header_line;
 
 // Where the first three texts end.
 pub(crate) struct Ends {
@@ -46,7 +48,30 @@ pub(crate) fn header_ends(file: &[u8]) -> Header
     })
 }
 
-// Puts the three lines, mended, at the outputs' starts, and what is said of them; answers the places after both.
+// Puts one of them, which lies between two places, and what is said of it.
+fn put_one(
+    file: &[u8],
+    from: usize,
+    to: usize,
+    count: u64,
+    out: &mut [u8],
+    list: &mut [u8],
+    at: Places,
+) -> Places
+    requires { ⌜ (from ≤ to) × (to ≤ length (now file)) ⌝ }
+    requires { ⌜ Room (headerGives count (textBetween (now file) from to)) at (now out) (now list) ⌝ }
+    ensures { λ r. ⌜ (r ≡ placesAfter (headerGives count (textBetween (now (file .entry)) from to)) at)
+        × ((now (out .exit) ≡ outAfter (headerGives count (textBetween (now (file .entry)) from to)) at (now (out .entry)))
+        × (now (list .exit) ≡ listAfter (headerGives count (textBetween (now (file .entry)) from to)) at (now (list .entry)))) ⌝ }
+{
+    let g = mended_lines::put_header_line(&file[from..to], count, out, list, at);
+    Places {
+        file: g.file,
+        list: g.list,
+    }
+}
+
+// Puts all three at the outputs' starts, and what is said of them; answers the places after both.
 pub(crate) fn put_header(file: &[u8], e: Ends, out: &mut [u8], list: &mut [u8]) -> Places
     requires { ⌜ headerEnds (now file) ≡ Three e ⌝ }
     requires { ⌜ Takes 0 (headerOf (now file) e .file) (now out) × Takes 0 (headerOf (now file) e .list) (now list) ⌝ }
@@ -54,25 +79,10 @@ pub(crate) fn put_header(file: &[u8], e: Ends, out: &mut [u8], list: &mut [u8]) 
         × ((now (out .exit) ≡ placed 0 (headerOf (now (file .entry)) e .file) (now (out .entry)))
         × (now (list .exit) ≡ placed 0 (headerOf (now (file .entry)) e .list) (now (list .entry)))) ⌝ }
 {
-    let first = e.first;
-    let second = e.second;
-    let third = e.third;
     let start = Places { file: 0, list: 0 };
-    let one = put_header_line(&file[..first], 1, out, list, start);
-    let after_one = Places {
-        file: one.file,
-        list: one.list,
-    };
-    let two = put_header_line(&file[first + 1..second], 2, out, list, after_one);
-    let after_two = Places {
-        file: two.file,
-        list: two.list,
-    };
-    let three = put_header_line(&file[second + 1..third], 3, out, list, after_two);
-    Places {
-        file: three.file,
-        list: three.list,
-    }
+    let one = put_one(file, 0, e.first, 1, out, list, start);
+    let two = put_one(file, e.first + 1, e.second, 2, out, list, one);
+    put_one(file, e.second + 1, e.third, 3, out, list, two)
 }
 
 // How long they are, mended, and what is said of them.

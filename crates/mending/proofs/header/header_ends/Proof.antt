@@ -1,7 +1,9 @@
 -- `mending::header::header_ends` meets its contract: three LFs are found, one after the other.
 -- Assumes nothing.
 use mathlib.Core.Path.{sym}
+use Prim.Native.Nat.{_+_, _≤_}
 use native.Mathlib.Omega.{arith}
+use lib.ListN.{length}
 use borrow.Author.Needs.{needs}
 use Rattle.mending.proofs.HeaderTexts.{stop-first, first-within, stop-second, second-within, stop-third, found-three}
 use Rattle.mending.proofs.header.header_ends.Statement.{statement}
@@ -13,7 +15,7 @@ text-ends-requires c κs = search needs
 returns : tie.Need-returns
 returns c = sym (stop-first _ _ (c .before .text-ends .ensures) (c .if1 .taken))
 
-within-one : (c : tie.Else1) → _
+within-one : (c : tie.Else1) → c .before .text-ends .result + 1 ≤ length (c .before .before .before .args .file .now)
 within-one c = first-within _ _ (c .before .text-ends .ensures) (c .if1 .left)
 
 add-text-ends : tie.Need-add-text-ends
@@ -29,7 +31,7 @@ returns-2 c =
     let one = c .before .before in
     sym (stop-second _ _ (one .before .text-ends .ensures) (one .if1 .left) _ (c .before .text-ends2 .ensures) (c .if2 .taken))
 
-within-two : (c : tie.Else2) → _
+within-two : (c : tie.Else2) → c .before .text-ends2 .result + 1 ≤ length (c .before .before .before .before .before .args .file .now)
 within-two c =
     let one = c .before .before in
     second-within _ _ (one .before .text-ends .ensures) (one .if1 .left) _ (c .before .text-ends2 .ensures) (c .if2 .left)

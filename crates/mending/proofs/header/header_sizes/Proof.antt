@@ -1,23 +1,31 @@
+-- `mending::header::header_sizes` meets its contract: what is put into nothing is measured.
+-- Assumes nothing.
+use mathlib.Core.Path.{refl}
+use mathlib.Core.Logic.{inr}
+use native.Mathlib.Omega.{arith}
 use borrow.Author.Needs.{needs}
+use Rattle.mending.proofs.HeaderTexts.{header-short, header-list}
 use Rattle.mending.proofs.header.header_sizes.Statement.{statement}
 use Rattle.mending.proofs.header.header_sizes.Tie as tie
-use Rattle.mending.proofs.header.header_sizes.Reads as reads
-use Rattle.mending.proofs.header.header_sizes.Lts as lts
-use Rattle.mending.proofs.header.put_header.Reads as put-header-reads
 
--- src/header.rt:85:25
 slice-aggregate-put-header : tie.Need-slice-aggregate-put-header
 slice-aggregate-put-header c = search needs
 
--- src/header.rt:85:39
 slice-aggregate-put-header-2 : tie.Need-slice-aggregate-put-header-2
 slice-aggregate-put-header-2 c = search needs
 
--- src/header.rt:85:5
 put-header-requires : tie.Need-put-header-requires
-put-header-requires c κs = ?
+put-header-requires c κs =
+    let start = c .before .before .before in
+    let file = start .args .file .now in
+    let e = start .args .e in (
+      start .pre,
+      (
+        (omega (arith, header-short file e (start .pre), start .good .0), inr refl),
+        (omega (arith, header-list file e), inr refl),
+      ),
+    )
 
--- src/header.rt:79:1
 returns : tie.Need-returns
 returns c = search needs
 

@@ -1,86 +1,106 @@
+-- `mending::header::put_header` meets its contract: the three lines, one after the other.
+-- Assumes nothing.
+use mathlib.Core.List.{List}
+use Prim.Native.Nat.{ℕ}
+use native.Mathlib.Omega.{arith}
 use borrow.Author.Needs.{needs}
+use Rattle.mending.proofs.HeaderTexts.{ends-rise}
+use Rattle.mending.proofs.HeaderPuts.{room-one, room-two, room-three, all-put}
 use Rattle.mending.proofs.header.put_header.Statement.{statement}
 use Rattle.mending.proofs.header.put_header.Tie as tie
-use Rattle.mending.proofs.header.put_header.Reads as reads
-use Rattle.mending.proofs.header.put_header.Lts as lts
-use Rattle.mended_lines.proofs.put_header_line.Reads as put-header-line-reads
 
--- src/header.rt:61:31
-slice-aggregate-put-header-line : tie.Need-slice-aggregate-put-header-line
-slice-aggregate-put-header-line c = ?
+-- after the first line
+module _ (first : tie.After-put-one) where
+  abbrev start : tie.Start
+  start = first .before .before .before .before .before .before
 
--- src/header.rt:61:9
-put-header-line-requires : tie.Need-put-header-line-requires
-put-header-line-requires c κs = ?
+  abbrev out1 : List ℕ
+  out1 = first .put-one .last .1 .1 .1 .1 .0
 
--- src/header.rt:66:37
-add-put-header-line : tie.Need-add-put-header-line
-add-put-header-line c = ?
+  abbrev list1 : List ℕ
+  list1 = first .put-one .last .1 .1 .1 .1 .1 .0
 
--- src/header.rt:66:31
-sub-put-header-line : tie.Need-sub-put-header-line
-sub-put-header-line c = ?
+-- after the second
+module _ (second : tie.After-put-one2) where
+  abbrev before : tie.After-put-one
+  before = second .before .before .before .before .before .before .before .before
 
--- src/header.rt:66:31
-part-put-header-line-start : tie.Need-part-put-header-line-start
-part-put-header-line-start c = ?
+  abbrev out2 : List ℕ
+  out2 = second .put-one2 .last .1 .1 .1 .1 .0
 
--- src/header.rt:66:31
-part-put-header-line-end : tie.Need-part-put-header-line-end
-part-put-header-line-end c = ?
+  abbrev list2 : List ℕ
+  list2 = second .put-one2 .last .1 .1 .1 .1 .1 .0
 
--- src/header.rt:66:9
-put-header-line-requires-2 : tie.Need-put-header-line-requires-2
-put-header-line-requires-2 c κs = ?
+put-one-requires : tie.Need-put-one-requires
+put-one-requires c κs =
+    let start = c .before .before .before .before .before in
+    let args = start .args in
+    let rise = ends-rise (args .file .now) (args .e) (start .pre .0) in
+    ((omega arith, omega (arith, rise)), room-one (args .file .now) (args .e) (args .out .now) (args .list .now) (start .pre .1))
 
--- src/header.rt:71:39
-add-put-header-line-2 : tie.Need-add-put-header-line-2
-add-put-header-line-2 c = ?
+add-put-one : tie.Need-add-put-one
+add-put-one c =
+    let s = start (c .before .before .before .before .before) in
+    let rise = ends-rise (s .args .file .now) (s .args .e) (s .pre .0) in
+    search needs
 
--- src/header.rt:71:33
-sub-put-header-line-2 : tie.Need-sub-put-header-line-2
-sub-put-header-line-2 c = ?
+put-one-requires-2 : tie.Need-put-one-requires-2
+put-one-requires-2 c κs =
+    let first = c .before .before .before .before .before .before .before in
+    let s = start first in
+    let args = s .args in
+    let rise = ends-rise (args .file .now) (args .e) (s .pre .0) in (
+      (rise .0, omega (arith, rise)),
+      room-two (args .file .now) (args .e) (args .out .now) (args .list .now) (s .pre .1)
+          (first .put-one .result) (out1 first) (list1 first) (first .put-one .ensures),
+    )
 
--- src/header.rt:71:33
-part-put-header-line-start-2 : tie.Need-part-put-header-line-start-2
-part-put-header-line-start-2 c = ?
+add-put-one-2 : tie.Need-add-put-one-2
+add-put-one-2 c =
+    let s = start (before (c .before .before .before .before .before)) in
+    let rise = ends-rise (s .args .file .now) (s .args .e) (s .pre .0) in
+    search needs
 
--- src/header.rt:71:33
-part-put-header-line-end-2 : tie.Need-part-put-header-line-end-2
-part-put-header-line-end-2 c = ?
+put-one-requires-3 : tie.Need-put-one-requires-3
+put-one-requires-3 c κs =
+    let second = c .before .before .before .before .before .before .before in
+    let first = before second in
+    let s = start first in
+    let args = s .args in
+    let rise = ends-rise (args .file .now) (args .e) (s .pre .0) in (
+      (rise .1 .0, omega (arith, rise)),
+      room-three (args .file .now) (args .e) (args .out .now) (args .list .now) (s .pre .1)
+          (first .put-one .result) (out1 first) (list1 first) (first .put-one .ensures)
+          (second .put-one2 .result) (out2 second) (list2 second) (second .put-one2 .ensures),
+    )
 
--- src/header.rt:71:9
-put-header-line-requires-3 : tie.Need-put-header-line-requires-3
-put-header-line-requires-3 c κs = ?
-
--- src/header.rt:50:1
 same-length : tie.Need-same-length
 same-length c = search needs
 
--- src/header.rt:50:1
 same-length-2 : tie.Need-same-length-2
 same-length-2 c = search needs
 
--- src/header.rt:50:1
 returns : tie.Need-returns
-returns c = ?
+returns c =
+    let third = c .before .before .before .before in
+    let second = third .before .before .before .before .before .before .before .before in
+    let first = before second in
+    let s = start first in
+    let args = s .args in
+    all-put (args .file .now) (args .e) (args .out .now) (args .list .now) (s .pre .1)
+    (first .put-one .result) (out1 first) (list1 first) (first .put-one .ensures)
+    (second .put-one2 .result) (out2 second) (list2 second) (second .put-one2 .ensures)
+    (third .put-one3 .result) (third .put-one3 .last .1 .1 .1 .1 .0) (third .put-one3 .last .1 .1 .1 .1 .1 .0) (third .put-one3 .ensures)
 
 pub put-header-spec : {M : Type 1} → statement M
 put-header-spec =
     tie.close
     (tie.spec
-    slice-aggregate-put-header-line
-    put-header-line-requires
-    add-put-header-line
-    sub-put-header-line
-    part-put-header-line-start
-    part-put-header-line-end
-    put-header-line-requires-2
-    add-put-header-line-2
-    sub-put-header-line-2
-    part-put-header-line-start-2
-    part-put-header-line-end-2
-    put-header-line-requires-3
+    put-one-requires
+    add-put-one
+    put-one-requires-2
+    add-put-one-2
+    put-one-requires-3
     same-length
     same-length-2
     returns)

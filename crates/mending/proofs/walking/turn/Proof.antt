@@ -1,38 +1,42 @@
+-- `mending::walking::turn` meets its contract.
+-- Assumes nothing.
 use borrow.Author.Needs.{needs}
+use Rattle.mailed_lines.proofs.CutTexts.{text-ends-within}
+use Rattle.mending.proofs.Walks.{turned-made}
 use Rattle.mending.proofs.walking.turn.Statement.{statement}
 use Rattle.mending.proofs.walking.turn.Tie as tie
-use Rattle.mending.proofs.walking.turn.Reads as reads
-use Rattle.mending.proofs.walking.turn.Lts as lts
-use Rattle.mailed_lines.proofs.texts.text_ends.Reads as text-ends-reads
-use Rattle.mending.proofs.walking.give.Reads as give-reads
 
--- src/walking.rt:60:9
 text-ends-requires : tie.Need-text-ends-requires
 text-ends-requires c κs = search needs
 
--- src/walking.rt:61:9
 give-requires : tie.Need-give-requires
 give-requires c κs = search needs
 
--- src/walking.rt:63:16
 add-t12 : tie.Need-add-t12
-add-t12 c = ?
+add-t12 c =
+    let found = c .before .before .before .before .before .before .before in
+    let start = found .before .before .before .before in
+    let h = text-ends-within (start .args .file .now) (start .args .t .place) (start .pre .0 .0) in
+    let e = found .text-ends .ensures in
+    search needs
 
--- src/walking.rt:64:16
 add-t13 : tie.Need-add-t13
 add-t13 c = search needs
 
--- src/walking.rt:49:1
 same-length : tie.Need-same-length
 same-length c = search needs
 
--- src/walking.rt:49:1
 same-length-2 : tie.Need-same-length-2
 same-length-2 c = search needs
 
--- src/walking.rt:49:1
 returns : tie.Need-returns
-returns c = ?
+returns c =
+    let gave = c .before .before .before .before .before in
+    let found = gave .before .before .before in
+    let start = found .before .before .before .before in (
+      turned-made (start .args .file .now) (start .args .t) (found .text-ends .result) (gave .give .result) (found .text-ends .ensures) (gave .give .ensures .0),
+      gave .give .ensures .1,
+    )
 
 pub turn-spec : {M : Type 1} → statement M
 turn-spec =
