@@ -1,6 +1,6 @@
 -- What mending comes to, by its tests, and what the program prints then.
 -- Assumes nothing.
-use mathlib.Core.Path.{_≡_, refl, sym, ap, ap₂, _∙_}
+use mathlib.Core.Path.{_≡_, refl, sym, ap, subst, _∙_}
 use mathlib.Core.Bool.{Bool, true, false, cond, _&&_}
 use mathlib.Core.List.{List, [], _++_}
 use mathlib.Core.Logic.{_⊎_, inl, inr}
@@ -38,10 +38,6 @@ refused-made : (t : Bool) (size : Lengths) (n : ℕ) → cond t (answer.Done siz
 refused-made true size n made = (cc, cc)
 refused-made false size n made = (refl, cc)
 
-done-made : (t : Bool) (size other : Lengths) → cond t (answer.Done size) (answer.Refused 108) ≡ answer.Done other → t ≡ true
-done-made true size other made = refl
-done-made false size other made = cc
-
 -- mending by its tests
 module _ (file out list : List ℕ) where
   abbrev comes : Outcome
@@ -59,6 +55,19 @@ module _ (file out list : List ℕ) where
     pub comes-done : fits (sizesOf (mendedOf file)) (roomOf out list) ≡ true → comes ≡ done (mendedOf file)
     unfolding mending fits
     comes-done fit = rw (good, fit)
+
+-- what a call answers and leaves in the outputs
+abbrev pub Mends : List ℕ → List ℕ → List ℕ → Answer → List ℕ → List ℕ → Type 0
+Mends file out list a out₁ list₁ =
+    (a ≡ answerOf (mending file (length out) (length list)))
+    × ((out₁ ≡ fileLent (mending file (length out) (length list)) out) × (list₁ ≡ listLent (mending file (length out) (length list)) list))
+
+pub mends-12 : (file out list : List ℕ) → isMended file ≡ false → Mends file out list (answer.Refused 12) out list
+mends-12 file out list bad = rw (comes-12 file out list bad) (refl, (refl, refl))
+
+done-made : (t : Bool) (size other : Lengths) → cond t (answer.Done size) (answer.Refused 108) ≡ answer.Done other → t ≡ true
+done-made true size other made = refl
+done-made false size other made = cc
 
 -- a file with a good header
 module _ (file : List ℕ) (e : Ends) (made : headerEnds file ≡ Three e) (good : isMended file ≡ true) where
@@ -104,12 +113,21 @@ module _ (file : List ℕ) (e : Ends) (made : headerEnds file ≡ Three e) (good
         let no = refused-made (fits (sizeAfter (sizeOf header) later) (roomOf out list)) (sizeAfter (sizeOf header) later) n says in
         (no .1, comes-108 file out list good (sym (ap (λ (s : Lengths). fits s (roomOf out list)) sizes-whole) ∙ no .0))
 
+    -- so nothing is written
+    pub mends-108 : (at : Places) → at ≡ sizeOf header → (a : Answer) → a ≡ answered (roomOf out list) (sizeAfter at later) → (n : ℕ) → a ≡ answer.Refused n
+        → Mends file out list (answer.Refused n) out list
+    mends-108 at sized a is n refusal =
+        let said = measured-108 n (sym (is ∙ ap (λ (p : Places). answered (roomOf out list) (sizeAfter p later)) sized) ∙ refusal) in
+        rw (said .0, said .1) (refl, (refl, refl))
+
     -- where it is no refusal, both fit
-    pub measured-fits : (size : Lengths) → answered (roomOf out list) (sizeAfter (sizeOf header) later) ≡ answer.Done size → fits (sizesOf whole) (roomOf out list) ≡ true
+    pub measured-fits : (at : Places) → at ≡ sizeOf header → (a : Answer) → a ≡ answered (roomOf out list) (sizeAfter at later) → (size : Lengths) → a ≡ answer.Done size
+        → fits (sizesOf whole) (roomOf out list) ≡ true
     unfolding answered
-    measured-fits size says =
-        sym (ap (λ (s : Lengths). fits s (roomOf out list)) sizes-whole)
-        ∙ done-made (fits (sizeAfter (sizeOf header) later) (roomOf out list)) (sizeAfter (sizeOf header) later) size says
+    measured-fits at sized a is size told =
+        let all : a ≡ answered (roomOf out list) (sizesOf whole) =
+        is ∙ ap (λ (p : Places). answered (roomOf out list) (sizeAfter p later)) sized ∙ ap (answered (roomOf out list)) sizes-whole in
+        done-made (fits (sizesOf whole) (roomOf out list)) (sizesOf whole) size (sym all ∙ told)
 
     module _ (fit : fits (sizesOf whole) (roomOf out list) ≡ true) where
       file-fits : length (whole .file) ≤ length out
@@ -169,6 +187,17 @@ module _ (file : List ℕ) (e : Ends) (made : headerEnds file ≡ Three e) (good
             ∙ placed-start (whole .list) list list-fits
             ∙ ap (λ (o : Outcome). listLent o list) (sym (comes-done file out list good fit))
 
+        pub walked : (at : Places) → at ≡ sizeOf header → (a : Answer) (out₂ list₂ : List ℕ)
+            → (a ≡ answered (roomOf out list) (sizeAfter at later)) × ((out₂ ≡ placed (at .file) (later .file) out₁) × (list₂ ≡ placed (at .list) (later .list) list₁))
+            → Mends file out list a out₂ list₂
+        walked at sized a out₂ list₂ put = (
+          put .0 ∙ ap (λ (p : Places). answered (roomOf out list) (sizeAfter p later)) sized ∙ walked-done,
+          (
+            put .1 .0 ∙ ap (λ (p : Places). placed (p .file) (later .file) out₁) sized ∙ walked-file,
+            put .1 .1 ∙ ap (λ (p : Places). placed (p .list) (later .list) list₁) sized ∙ walked-list,
+          ),
+        )
+
 -- what the program prints, by the input's length and its header
 module _ (input out list : List ℕ) where
   abbrev prints : Outcome
@@ -225,10 +254,75 @@ module _ (file out list : List ℕ) where
       number : (n : ℕ) → answer.Refused 12 ≡ answer.Refused n → n ≡ 12
       number n same = cc
 
-  pub told-done : (s : Lengths) → answers ≡ answer.Done s → isMended file ≡ true
-  told-done s is =
+  pub told-done-good : (s : Lengths) → answers ≡ answer.Done s → isMended file ≡ true
+  told-done-good s is =
       either (isMended file) (λ good. good)
       (λ bad. never s (sym (ap answerOf (comes-12 file out list bad)) ∙ is))
     where
       never : (s : Lengths) → answer.Refused 12 ≡ answer.Done s → isMended file ≡ true
       never s same = cc
+
+-- a refusal in words: too long for the list, or at its start
+module _ (words list : List ℕ) where
+  pub words-short : length list < length words
+      → (answer.Refused 108 ≡ answerOf (refusalPrinted words (length list))) × (list ≡ listLent (refusalPrinted words (length list)) list)
+  unfolding refusalPrinted
+  words-short short = rw (lt-leb (length words) (length list) short) (refl, refl)
+
+  pub words-put : length words ≤ length list → (list₁ : List ℕ) → list₁ ≡ placed 0 words list
+      → (answer.Done (record { file = 0; list = length words }) ≡ answerOf (refusalPrinted words (length list)))
+      × (list₁ ≡ listLent (refusalPrinted words (length list)) list)
+  unfolding refusalPrinted
+  words-put fits list₁ put = rw (le-leb (length words) (length list) fits) (refl, put ∙ placed-start words list fits)
+
+pub words-leave : (words out : List ℕ) (room : ℕ) → out ≡ fileLent (refusalPrinted words room) out
+unfolding refusalPrinted
+words-leave words out room = either (leb (length words) room) (λ fits. rw fits refl) (λ short. rw short refl)
+
+-- what is printed into both outputs
+abbrev pub Printed : List ℕ → List ℕ → List ℕ → Answer → List ℕ → List ℕ → Type 0
+Printed input out list a out₁ list₁ =
+    (a ≡ answerOf (printing input (length out) (length list)))
+    × ((out₁ ≡ fileLent (printing input (length out) (length list)) out) × (list₁ ≡ listLent (printing input (length out) (length list)) list))
+
+module _ (input out list : List ℕ) where
+  -- a refusal in words leaves the file's output as it is
+  words-printed : (words : List ℕ) → printing input (length out) (length list) ≡ refusalPrinted words (length list) → (a : Answer) (list₁ : List ℕ)
+      → (a ≡ answerOf (refusalPrinted words (length list))) × (list₁ ≡ listLent (refusalPrinted words (length list)) list)
+      → Printed input out list a out list₁
+  words-printed words is a list₁ put = rw is (put .0, (words-leave words out (length list), put .1))
+
+  pub printed-103 : 65536 < length input → (a : Answer) (list₁ : List ℕ)
+      → (a ≡ answerOf (refusalPrinted (ascii "refused 103\n") (length list))) × (list₁ ≡ listLent (refusalPrinted (ascii "refused 103\n") (length list)) list)
+      → Printed input out list a out list₁
+  printed-103 long = words-printed (ascii "refused 103\n") (prints-103 input out list long)
+
+  module _ (small : length input ≤ 65536) (out₁ list₁ : List ℕ) (a : Answer) (mends : Mends input out list a out₁ list₁) where
+    -- mended, or no room
+    same-printed : isMended input ≡ true → Printed input out list a out₁ list₁
+    same-printed good = rw (prints-mended input out list small good) mends
+
+    pub printed-done : (size : Lengths) → a ≡ answer.Done size → Printed input out list (answer.Done size) out₁ list₁
+    printed-done size is =
+        let all = same-printed (told-done-good input out list size (sym (mends .0) ∙ is)) in
+        (sym is ∙ all .0, all .1)
+
+    pub printed-108 : (n : ℕ) → a ≡ answer.Refused n → (n ≡ 12 → ⊥) → Printed input out list (answer.Refused n) out₁ list₁
+    printed-108 n is other =
+        let all = same-printed (told-good input out list n (sym (mends .0) ∙ is) other) in
+        (sym is ∙ all .0, all .1)
+
+    -- no good header
+    module _ (n : ℕ) (is : a ≡ answer.Refused n) (twelve : n ≡ 12) where
+      pub list-as-it-was : list₁ ≡ list
+      list-as-it-was = mends .1 .1 ∙ told-lent input out list n (sym (mends .0) ∙ is) twelve .1
+
+      pub printed-12 : (b : Answer) (list₂ : List ℕ)
+          → (b ≡ answerOf (refusalPrinted (ascii "refused 12\n") (length list₁))) × (list₂ ≡ listLent (refusalPrinted (ascii "refused 12\n") (length list₁)) list₁)
+          → Printed input out list b out₁ list₂
+      printed-12 b list₂ put =
+          let lent = told-lent input out list n (sym (mends .0) ∙ is) twelve in
+          let all =
+          words-printed (ascii "refused 12\n") (prints-12 input out list small (told-bad input out list n (sym (mends .0) ∙ is) twelve)) b list₂
+          (subst (λ (l : List ℕ). (b ≡ answerOf (refusalPrinted (ascii "refused 12\n") (length l))) × (list₂ ≡ listLent (refusalPrinted (ascii "refused 12\n") (length l)) l)) list-as-it-was put) in
+          (all .0, (mends .1 .0 ∙ lent .0 ∙ all .1 .0, all .1 .1))

@@ -1,8 +1,7 @@
 // A mailed permit file mended: the whole file, and the whole list of what was wrong with it.
 ghost use mathlib.Core.Path.{_≡_};
 ghost use lib.ListN.{length};
-ghost use mathlib.Core.Bool.{true};
-ghost use Rattle.mending.specs.Mending.{isMended, mending};
+ghost use Rattle.mending.specs.Mending.{mending};
 ghost use Rattle.mending.specs.Answers.{answerOf, fileLent, listLent};
 ghost use Rattle.mending.specs.Program.{printing, refusalPrinted};
 ghost use Rattle.mending.specs.Walking.{headerEnds};
@@ -25,29 +24,28 @@ pub enum Answer {
     Refused(u32),
 }
 
-// Mends a file with a good header: measured first, so that nothing is written where it does not fit.
-fn mend_good(file: &[u8], e: Ends, out: &mut [u8], list: &mut [u8]) -> Answer
+// Mends a file by its first three lines. It is measured first, so that nothing is written where it does not fit.
+fn mend_headed(file: &[u8], e: Ends, out: &mut [u8], list: &mut [u8]) -> Answer
     requires { ⌜ headerEnds (now file) ≡ Three e ⌝ }
-    requires { ⌜ isMended (now file) ≡ true ⌝ }
     ensures { λ r. ⌜ (r ≡ answerOf (mending (now (file .entry)) (length (now (out .entry))) (length (now (list .entry)))))
         × ((now (out .exit) ≡ fileLent (mending (now (file .entry)) (length (now (out .entry))) (length (now (list .entry)))) (now (out .entry)))
         × (now (list .exit) ≡ listLent (mending (now (file .entry)) (length (now (out .entry))) (length (now (list .entry)))) (now (list .entry)))) ⌝ }
 {
+    if !header::is_good(file, e) {
+        return Answer::Refused(12);
+    }
     let room = Lengths {
         file: out.len(),
         list: list.len(),
     };
     let place = e.third + 1;
-    if let Answer::Refused(number) = walking::measure(
-        file,
-        place,
-        header::header_sizes(file, e),
-        room,
-    ) {
-        return Answer::Refused(number);
+    match walking::measure(file, place, header::header_sizes(file, e), room) {
+        Answer::Refused(number) => Answer::Refused(number),
+        Answer::Done(_) => {
+            let at = header::put_header(file, e, out, list);
+            walking::walk(file, place, out, list, at, room)
+        }
     }
-    let at = header::put_header(file, e, out, list);
-    walking::walk(file, place, out, list, at, room)
 }
 
 // Mends a file.
@@ -56,13 +54,10 @@ pub fn mend(file: &[u8], out: &mut [u8], list: &mut [u8]) -> Answer
         × ((now (out .exit) ≡ fileLent (mending (now (file .entry)) (length (now (out .entry))) (length (now (list .entry)))) (now (out .entry)))
         × (now (list .exit) ≡ listLent (mending (now (file .entry)) (length (now (out .entry))) (length (now (list .entry)))) (now (list .entry)))) ⌝ }
 {
-    let Header::Three(e) = header::header_ends(file) else {
-        return Answer::Refused(12);
-    };
-    if !header::is_good(file, e) {
-        return Answer::Refused(12);
+    match header::header_ends(file) {
+        Header::Three(e) => mend_headed(file, e, out, list),
+        Header::Fewer => Answer::Refused(12),
     }
-    mend_good(file, e, out, list)
 }
 
 // Puts a refusal in words into the list.
@@ -89,11 +84,14 @@ pub fn print(input: &[u8], out: &mut [u8], list: &mut [u8]) -> Answer
     if 65536 < input.len() {
         return put_refusal(list, b"refused 103\n");
     }
-    let answer = mend(input, out, list);
-    if let Answer::Refused(number) = answer {
-        if number == 12 {
-            return put_refusal(list, b"refused 12\n");
+    match mend(input, out, list) {
+        Answer::Done(size) => Answer::Done(size),
+        Answer::Refused(number) => {
+            if number == 12 {
+                put_refusal(list, b"refused 12\n")
+            } else {
+                Answer::Refused(number)
+            }
         }
     }
-    answer
 }

@@ -1,51 +1,38 @@
+-- `mending::mend` meets its contract, by whether there are three lines.
+-- Assumes nothing.
+use mathlib.Core.Path.{sym, _∙_}
 use borrow.Author.Needs.{needs}
+use Rattle.mending.proofs.HeaderTexts.{fewer}
+use Rattle.mending.proofs.Mends.{mends-12}
 use Rattle.mending.proofs.mend.Statement.{statement}
 use Rattle.mending.proofs.mend.Tie as tie
-use Rattle.mending.proofs.mend.Reads as reads
-use Rattle.mending.proofs.mend.Lts as lts
-use Rattle.mending.proofs.header.header_ends.Reads as header-ends-reads
-use Rattle.mending.proofs.header.is_good.Reads as is-good-reads
-use Rattle.mending.proofs.mend_good.Reads as mend-good-reads
 
--- src/lib.rt:59:28
 header-ends-requires : tie.Need-header-ends-requires
 header-ends-requires c κs = search needs
 
--- src/lib.rt:59:23
 enum-known-e : tie.Need-enum-known-e
 enum-known-e c = search needs
 
--- src/lib.rt:60:9
+mend-headed-requires : tie.Need-mend-headed-requires
+mend-headed-requires c κs = sym (c .before .before .before .before .before .header-ends .ensures) ∙ c .before .before .before .e .given .1
+
 enum-told : tie.Need-enum-told
 enum-told c = search needs
 
--- src/lib.rt:60:9
-returns : tie.Need-returns
-returns c = ?
-
--- src/lib.rt:62:9
-is-good-requires : tie.Need-is-good-requires
-is-good-requires c κs = ?
-
--- src/lib.rt:63:9
-returns-2 : tie.Need-returns-2
-returns-2 c = ?
-
--- src/lib.rt:65:5
-mend-good-requires : tie.Need-mend-good-requires
-mend-good-requires c κs = ?
-
--- src/lib.rt:54:1
 same-length : tie.Need-same-length
 same-length c = search needs
 
--- src/lib.rt:54:1
 same-length-2 : tie.Need-same-length-2
 same-length-2 c = search needs
 
--- src/lib.rt:54:1
-returns-3 : tie.Need-returns-3
-returns-3 c = search needs
+returns : tie.Need-returns
+returns c = search needs
+
+returns-2 : tie.Need-returns-2
+returns-2 c =
+    let found = c .before .before in
+    let args = found .before .before .before .before .args in
+    mends-12 (args .file .now) (args .out .now) (args .list .now) (fewer (args .file .now) (sym (found .header-ends .ensures) ∙ c .enum-told .given .1))
 
 pub mend-spec : {M : Type 1} → statement M
 mend-spec =
@@ -53,11 +40,9 @@ mend-spec =
     (tie.spec
     header-ends-requires
     enum-known-e
+    mend-headed-requires
     enum-told
-    returns
-    is-good-requires
-    returns-2
-    mend-good-requires
     same-length
     same-length-2
-    returns-3)
+    returns
+    returns-2)

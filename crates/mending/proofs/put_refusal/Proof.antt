@@ -1,25 +1,30 @@
+-- `mending::put_refusal` meets its contract.
+-- Assumes nothing.
+use mathlib.Core.Path.{_≡_, refl, _∙_}
+use native.Mathlib.Omega.{arith}
 use borrow.Author.Needs.{needs}
+use Rattle.text.proofs.PlacedTexts.{placed-start}
+use Rattle.mending.proofs.Mends.{words-short, words-put}
 use Rattle.mending.proofs.put_refusal.Statement.{statement}
 use Rattle.mending.proofs.put_refusal.Tie as tie
-use Rattle.mending.proofs.put_refusal.Reads as reads
-use Rattle.mending.proofs.put_refusal.Lts as lts
-use Rattle.text.proofs.writing.put_text.Reads as put-text-reads
 
--- src/lib.rt:74:9
 returns : tie.Need-returns
-returns c = ?
+returns c =
+    let args = c .before .before .before .args in
+    words-short (args .words .now) (args .list .now) (c .if1 .taken)
 
--- src/lib.rt:76:5
 put-text-requires : tie.Need-put-text-requires
 put-text-requires c κs = search needs
 
--- src/lib.rt:69:1
 same-length : tie.Need-same-length
 same-length c = search needs
 
--- src/lib.rt:69:1
 returns-2 : tie.Need-returns-2
-returns-2 c = ?
+returns-2 c =
+    let put = c .before .before in
+    let fits = put .before .before in
+    let args = fits .before .before .before .args in
+    words-put (args .words .now) (args .list .now) (omega (arith, fits .if1 .left)) (put .put-text .last .0) (put .put-text .ensures)
 
 pub put-refusal-spec : {M : Type 1} → statement M
 put-refusal-spec = tie.close (tie.spec returns put-text-requires same-length returns-2)
