@@ -20,21 +20,27 @@ use Rattle.mailed_lines.specs.declared.Fate.{Fate}
 use Rattle.mailed_lines.specs.declared.Fate.the-variants.{Kept, Last, Out}
 use Rattle.mailed_lines.proofs.Fates.{ecs-raised}
 use Rattle.mended_lines.specs.Gives.{Gives, headerGives, givesBy, unendedGives}
-use Rattle.mended_lines.specs.Giving.{addedSaid}
+use Rattle.mended_lines.specs.Giving.{lastGives, addedSaid}
 use Rattle.mended_lines.proofs.MeasuredLines.{Measured, line-taken, left-taken, mended-taken, faults-shown, all-faults-shown}
 
 -- what is put into the file and into the list
 abbrev pub gives : List ℕ → List ℕ → Bool → Gives
 gives file list more = record { file = file; list = list; more = more }
 
--- a line's letters, as its start in the text shows them
+-- whether a line has small letters, as it is told of its start in the text
 module _ (line start : List ℕ) (is : start ≡ line) (raised : Bool) (told : raised ≡ sameText (raisedText start) start) where
   case-shown : not raised ≡ not (sameText (raisedText line) line)
   case-shown = ap not (told ∙ ap (λ (l : List ℕ). sameText (raisedText l) l) is)
 
-  -- those of :ECS
+  -- those of :ECS are those that :ECS in capitals has not
   ecs-case-shown : isEcs line ≡ true → not raised ≡ not (sameText ecs line)
   ecs-case-shown ended = case-shown ∙ ap (λ (l : List ℕ). not (sameText l line)) (ecs-raised line ended)
+
+-- :ECS, once its letters are looked at
+pub told-gives : (eol blank : Bool) (count : ℕ) (line after : List ℕ) (raised : Bool) → raised ≡ sameText (raisedText line) line
+    → lastGives eol blank count line after ≡ gives ((ecs ++ lineEnd) ++ after) (faultsSaid eol blank (not raised) count) false
+told-gives eol blank count line after raised told =
+    ap (λ (b : Bool). gives ((ecs ++ lineEnd) ++ after) (faultsSaid eol blank (not b) count) false) (sym told)
 
 module _ (count : ℕ) (text : List ℕ) (n k : ℕ) (sizes : Measured text n k) where
   -- one of the first three
@@ -48,20 +54,19 @@ module _ (count : ℕ) (text : List ℕ) (n k : ℕ) (sizes : Measured text n k)
       (case-shown (unblanked (lineOf text)) (take k text) (mended-taken text n k sizes) raised told))
 
   -- one that is kept: no letter is raised
-  pub kept-gives : givesBy Kept count text [] ≡ gives (take k text ++ lineEnd) (faultsSaid (eqb n (length text)) (ltb k n) false count) true
-  kept-gives =
+  pub kept-gives : (after : List ℕ) → givesBy Kept count text after ≡ gives (take k text ++ lineEnd) (faultsSaid (eqb n (length text)) (ltb k n) false count) true
+  kept-gives after =
       ap₂ (λ (f l : List ℕ). gives f l true)
       (ap (λ (l : List ℕ). l ++ lineEnd) (sym (mended-taken text n k sizes)))
       (all-faults-shown text n k sizes false count (unblanked (lineOf text)) (sym (ap not (same-refl (unblanked (lineOf text))))))
 
   -- :ECS
   pub last-gives : (after : List ℕ) → isEcs (unblanked (lineOf text)) ≡ true
-      → (raised : Bool) → raised ≡ sameText (raisedText (take k text)) (take k text)
-      → givesBy Last count text after ≡ gives ((ecs ++ lineEnd) ++ after) (faultsSaid (eqb n (length text)) (ltb k n) (not raised) count) false
-  last-gives after ended raised told =
+      → givesBy Last count text after ≡ lastGives (eqb n (length text)) (ltb k n) count (take k text) after
+  last-gives after ended =
       ap (λ (l : List ℕ). gives ((ecs ++ lineEnd) ++ after) l false)
-      (all-faults-shown text n k sizes (not raised) count ecs
-      (ecs-case-shown (unblanked (lineOf text)) (take k text) (mended-taken text n k sizes) raised told ended))
+      (all-faults-shown text n k sizes (not (sameText (raisedText (take k text)) (take k text))) count ecs
+      (ecs-case-shown (unblanked (lineOf text)) (take k text) (mended-taken text n k sizes) (sameText (raisedText (take k text)) (take k text)) refl ended))
 
   -- one that is left out
   pub out-gives : (after : List ℕ) → givesBy Out count text after ≡ gives [] (outSaid count (take n text)) true

@@ -1,10 +1,14 @@
 -- What a line gives, put into two outputs. For contracts inside the crate and above.
+use mathlib.Core.Bool.{Bool, false, not}
 use mathlib.Core.List.{List, [], _∷_, _++_}
 use Prim.Native.Nat.{ℕ, suc, _+_}
 use lib.ListN.{length}
 use Rattle.text.specs.Ascii.{ascii}
-use Rattle.text.specs.Texts.{placed}
-use Rattle.mailed_lines.specs.Saying.{said, outSaid}
+use Rattle.text.specs.Characters.{raisedText}
+use Rattle.text.specs.Texts.{sameText, placed}
+use Rattle.cell_permit.specs.CellPermit.{lineEnd}
+use Rattle.file_lines.specs.Lines.{ecs}
+use Rattle.mailed_lines.specs.Saying.{said, faultsSaid, outSaid}
 use Rattle.mailed_lines.specs.Putting.{Takes}
 use Rattle.mended_lines.specs.Gives.{Gives}
 use Rattle.mended_lines.specs.declared.Places.{Places}
@@ -24,6 +28,14 @@ outAfter g at out = placed (at .file) (g .file) out
 
 abbrev pub listAfter : Gives → Places → List ℕ → List ℕ
 listAfter g at list = placed (at .list) (g .list) list
+
+-- what :ECS gives, as its faults are found
+abbrev pub lastGives : Bool → Bool → ℕ → List ℕ → List ℕ → Gives
+lastGives eol blank count line after = record {
+  file = (ecs ++ lineEnd) ++ after;
+  list = faultsSaid eol blank (not (sameText (raisedText line) line)) count;
+  more = false;
+}
 
 -- what the list says where :ECS is added: the line that is left out, if it has any byte, and :ECS
 unfoldable pub addedSaid : ℕ → List ℕ → List ℕ

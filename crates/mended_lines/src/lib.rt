@@ -12,7 +12,7 @@ ghost use Rattle.mailed_lines.specs.Mailed.{lineOf, unblanked, isEcs, fateOf};
 ghost use Rattle.mailed_lines.specs.Putting.{Takes};
 ghost use Rattle.mailed_lines.specs.declared.Fate.the-variants.{Kept, Last};
 ghost use Rattle.mended_lines.specs.Gives.{headerGives, givesBy, unendedGives};
-ghost use Rattle.mended_lines.specs.Giving.{Room, given, outAfter, listAfter, addedSaid};
+ghost use Rattle.mended_lines.specs.Giving.{Room, given, outAfter, listAfter, lastGives, addedSaid};
 use mailed_lines::Fate;
 
 // Where the next texts are put, in the mended file and in the list.
@@ -63,61 +63,37 @@ pub fn put_header_line(
 {
     let n = mailed_lines::line_length(text);
     let k = mailed_lines::unblanked_length(&text[..n]);
-    let case = !mailed_lines::is_raised(&text[..k]);
+    let line = &text[..k];
+    let case = !mailed_lines::is_raised(line);
     Given {
-        file: put_raised_line(out, at.file, &text[..k]),
+        file: put_raised_line(out, at.file, line),
         list: mailed_lines::saying::put_faults(list, at.list, n == text.len(), k < n, case, count),
         more: true,
     }
 }
 
-// A line of n bytes that is kept, k of them without the blanks at its end.
-fn put_kept(
-    text: &[u8],
-    n: usize,
-    k: usize,
-    count: u64,
-    out: &mut [u8],
-    list: &mut [u8],
-    at: Places,
-) -> Given
-    requires { ⌜ (n ≡ length (lineOf (now text))) × (k ≡ length (unblanked (lineOf (now text)))) ⌝ }
-    requires { ⌜ Room (givesBy Kept count (now text) []) at (now out) (now list) ⌝ }
-    ensures { λ r. ⌜ (r ≡ given (givesBy Kept count (now (text .entry)) []) at)
-        × ((now (out .exit) ≡ outAfter (givesBy Kept count (now (text .entry)) []) at (now (out .entry)))
-        × (now (list .exit) ≡ listAfter (givesBy Kept count (now (text .entry)) []) at (now (list .entry)))) ⌝ }
-{
-    Given {
-        file: put_line(out, at.file, &text[..k]),
-        list: mailed_lines::saying::put_faults(list, at.list, n == text.len(), k < n, false, count),
-        more: true,
-    }
-}
-
-// The line :ECS, and what stands after its LF, as it stands.
+// The line :ECS, in any case of its letters, and what stands after its LF, as it stands.
 fn put_last(
-    text: &[u8],
+    line: &[u8],
     after: &[u8],
-    n: usize,
-    k: usize,
+    eol: bool,
+    blank: bool,
     count: u64,
     out: &mut [u8],
     list: &mut [u8],
     at: Places,
 ) -> Given
-    requires { ⌜ (n ≡ length (lineOf (now text))) × (k ≡ length (unblanked (lineOf (now text)))) ⌝ }
-    requires { ⌜ isEcs (unblanked (lineOf (now text))) ≡ true ⌝ }
-    requires { ⌜ Room (givesBy Last count (now text) (now after)) at (now out) (now list) ⌝ }
-    ensures { λ r. ⌜ (r ≡ given (givesBy Last count (now (text .entry)) (now (after .entry))) at)
-        × ((now (out .exit) ≡ outAfter (givesBy Last count (now (text .entry)) (now (after .entry))) at (now (out .entry)))
-        × (now (list .exit) ≡ listAfter (givesBy Last count (now (text .entry)) (now (after .entry))) at (now (list .entry)))) ⌝ }
+    requires { ⌜ Room (lastGives eol blank count (now line) (now after)) at (now out) (now list) ⌝ }
+    ensures { λ r. ⌜ (r ≡ given (lastGives eol blank count (now (line .entry)) (now (after .entry))) at)
+        × ((now (out .exit) ≡ outAfter (lastGives eol blank count (now (line .entry)) (now (after .entry))) at (now (out .entry)))
+        × (now (list .exit) ≡ listAfter (lastGives eol blank count (now (line .entry)) (now (after .entry))) at (now (list .entry)))) ⌝ }
 {
-    let case = !mailed_lines::is_raised(&text[..k]);
+    let case = !mailed_lines::is_raised(line);
     let rest = put_line(out, at.file, b":ECS");
     text::writing::put_text(out, rest, after);
     Given {
         file: rest + after.len(),
-        list: mailed_lines::saying::put_faults(list, at.list, n == text.len(), k < n, case, count),
+        list: mailed_lines::saying::put_faults(list, at.list, eol, blank, case, count),
         more: false,
     }
 }
@@ -138,9 +114,21 @@ pub fn put_ended(
 {
     let n = mailed_lines::line_length(text);
     let k = mailed_lines::unblanked_length(&text[..n]);
-    match mailed_lines::fate_of(&text[..k]) {
-        Fate::Kept => put_kept(text, n, k, count, out, list, at),
-        Fate::Last => put_last(text, after, n, k, count, out, list, at),
+    let line = &text[..k];
+    match mailed_lines::fate_of(line) {
+        Fate::Kept => Given {
+            file: put_line(out, at.file, line),
+            list: mailed_lines::saying::put_faults(
+                list,
+                at.list,
+                n == text.len(),
+                k < n,
+                false,
+                count,
+            ),
+            more: true,
+        },
+        Fate::Last => put_last(line, after, n == text.len(), k < n, count, out, list, at),
         Fate::Out => Given {
             file: at.file,
             list: mailed_lines::saying::put_out(list, at.list, count, &text[..n]),
@@ -171,14 +159,15 @@ pub fn put_unended(line: &[u8], count: u64, out: &mut [u8], list: &mut [u8], at:
         × (now (list .exit) ≡ listAfter (unendedGives count (now (line .entry))) at (now (list .entry)))) ⌝ }
 {
     let k = mailed_lines::unblanked_length(line);
-    if !mailed_lines::is_ecs(&line[..k]) {
+    let left = &line[..k];
+    if !mailed_lines::is_ecs(left) {
         return Given {
             file: put_line(out, at.file, b":ECS"),
             list: put_added(list, at.list, count, line),
             more: false,
         };
     }
-    let case = !mailed_lines::is_raised(&line[..k]);
+    let case = !mailed_lines::is_raised(left);
     text::writing::put_text(out, at.file, b":ECS");
     Given {
         file: at.file + 4,

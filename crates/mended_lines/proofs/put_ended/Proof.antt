@@ -1,7 +1,7 @@
 -- `mended_lines::put_ended` meets its contract, by what becomes of the line.
 -- Assumes nothing.
 use mathlib.Core.Path.{_≡_, ap, _∙_}
-use mathlib.Core.List.{List, []}
+use mathlib.Core.List.{List}
 use Prim.Native.Nat.{ℕ}
 use borrow.Author.Needs.{needs}
 use Rattle.mailed_lines.specs.Mailed.{lineOf, unblanked, fateOf}
@@ -9,10 +9,10 @@ use Rattle.mailed_lines.specs.declared.Fate.{Fate}
 use Rattle.mailed_lines.specs.declared.Fate.the-variants.{Kept, Last, Out}
 use Rattle.mailed_lines.proofs.Fates.{last-is}
 use Rattle.mailed_lines.proofs.Puts.{put-nothing}
-use Rattle.mended_lines.specs.Gives.{givesBy}
+use Rattle.mended_lines.specs.Gives.{Gives, givesBy}
 use Rattle.mended_lines.proofs.BothPut.{same-room, same-gave, gave-both}
 use Rattle.mended_lines.proofs.MeasuredLines.{Measured, line-counted, measured, mended-counted}
-use Rattle.mended_lines.proofs.LineGives.{fate-shown, out-gives}
+use Rattle.mended_lines.proofs.LineGives.{fate-shown, kept-gives, last-gives, out-gives}
 use Rattle.mended_lines.proofs.put_ended.Statement.{statement}
 use Rattle.mended_lines.proofs.put_ended.Tie as tie
 
@@ -35,35 +35,35 @@ module _ (left : tie.After-unblanked-length) where
 
 -- what becomes of it
 module _ (told : tie.After-fate-of) where
-  abbrev measure : tie.After-unblanked-length
-  measure = told .before .before
+  abbrev left : tie.After-unblanked-length
+  left = told .before .before
 
   abbrev start : tie.Start
-  start = measure .before .before .before .before .before .before .before
+  start = size left .before .before .before .before .before
 
   module _ (f : Fate) (found : told .fate-of .result ≡ f) where
-    fate : fateOf (unblanked (lineOf (text measure))) ≡ f
+    fate : fateOf (unblanked (lineOf (text left))) ≡ f
     fate =
-        fate-shown (start .args .count) (text measure) (n measure) (k measure) (sizes measure) (told .fate-of .result) f
+        fate-shown (start .args .count) (text left) (n left) (k left) (sizes left) (told .fate-of .result) f
         (told .fate-of .ensures) found
 
-    same : givesBy (fateOf (unblanked (lineOf (text measure)))) (start .args .count) (text measure) (start .args .after .now)
-        ≡ givesBy f (start .args .count) (text measure) (start .args .after .now)
-    same = ap (λ (x : Fate). givesBy x (start .args .count) (text measure) (start .args .after .now)) fate
+    same : (g : Gives) → givesBy f (start .args .count) (text left) (start .args .after .now) ≡ g
+        → givesBy (fateOf (unblanked (lineOf (text left)))) (start .args .count) (text left) (start .args .after .now) ≡ g
+    same g is = ap (λ (x : Fate). givesBy x (start .args .count) (text left) (start .args .after .now)) fate ∙ is
 
 line-length-requires : tie.Need-line-length-requires
 line-length-requires c κs = search needs
 
 slice-aggregate-unblanked-length : tie.Need-slice-aggregate-unblanked-length
 slice-aggregate-unblanked-length c =
-    let size = c .before in
-    line-counted (size .before .before .before .before .before .args .text .now) (size .line-length .result) (size .line-length .ensures)
+    let measured = c .before in
+    line-counted (measured .before .before .before .before .before .args .text .now) (measured .line-length .result) (measured .line-length .ensures)
 
 unblanked-length-requires : tie.Need-unblanked-length-requires
 unblanked-length-requires c κs = search needs
 
-slice-aggregate-fate-of : tie.Need-slice-aggregate-fate-of
-slice-aggregate-fate-of c = mended-counted (text (c .before)) (n (c .before)) (k (c .before)) (sizes (c .before))
+slice-aggregate-line : tie.Need-slice-aggregate-line
+slice-aggregate-line c = mended-counted (text (c .before)) (n (c .before)) (k (c .before)) (sizes (c .before))
 
 fate-of-requires : tie.Need-fate-of-requires
 fate-of-requires c κs = search needs
@@ -71,11 +71,22 @@ fate-of-requires c κs = search needs
 enum-told : tie.Need-enum-told
 enum-told c = search needs
 
-put-kept-requires : tie.Need-put-kept-requires
-put-kept-requires c κs =
-    let told = c .before .before .before .before in
+put-line-requires : tie.Need-put-line-requires
+put-line-requires c κs =
+    let told = c .before .before .before in
     let args = start told .args in
-    (sizes (measure told), same-room _ _ (same told Kept (c .before .before .enum-told .given .1)) (args .at) (args .out .now) (args .list .now) (start told .pre))
+    let m = left told in
+    same-room _ _ (same told Kept (c .before .enum-told .given .1) _ (kept-gives (args .count) (text m) (n m) (k m) (sizes m) (args .after .now)))
+    (args .at) (args .out .now) (args .list .now) (start told .pre) .0
+
+put-faults-requires : tie.Need-put-faults-requires
+put-faults-requires c κs =
+    let kept = c .before .before .before .before .before in
+    let told = kept .before .before in
+    let args = start told .args in
+    let m = left told in
+    same-room _ _ (same told Kept (kept .enum-told .given .1) _ (kept-gives (args .count) (text m) (n m) (k m) (sizes m) (args .after .now)))
+    (args .at) (args .out .now) (args .list .now) (start told .pre) .1
 
 enum-told-2 : tie.Need-enum-told-2
 enum-told-2 c = search needs
@@ -84,28 +95,25 @@ put-last-requires : tie.Need-put-last-requires
 put-last-requires c κs =
     let told = c .before .before .before .before in
     let args = start told .args in
-    let found = c .before .before .enum-told2 .given .1 in (
-      sizes (measure told),
-      (
-        last-is (unblanked (lineOf (text (measure told)))) (fate told Last found),
-        same-room _ _ (same told Last found) (args .at) (args .out .now) (args .list .now) (start told .pre),
-      ),
-    )
+    let m = left told in
+    let found = c .before .before .enum-told2 .given .1 in
+    same-room _ _ (same told Last found _ (last-gives (args .count) (text m) (n m) (k m) (sizes m) (args .after .now) (last-is (unblanked (lineOf (text m))) (fate told Last found))))
+    (args .at) (args .out .now) (args .list .now) (start told .pre)
 
 enum-told-3 : tie.Need-enum-told-3
 enum-told-3 c = search needs
 
 slice-aggregate-put-out : tie.Need-slice-aggregate-put-out
 slice-aggregate-put-out c =
-    let measured = measure (c .before .before .before .before) in
-    line-counted (text measured) (n measured) (sizes measured .0)
+    let m = left (c .before .before .before .before) in
+    line-counted (text m) (n m) (sizes m .0)
 
 put-out-requires : tie.Need-put-out-requires
 put-out-requires c κs =
     let told = c .before .before .before .before in
     let args = start told .args in
-    let m = measure told in
-    same-room _ _ (same told Out (c .before .before .enum-told3 .given .1) ∙ out-gives (args .count) (text m) (n m) (k m) (sizes m) (args .after .now))
+    let m = left told in
+    same-room _ _ (same told Out (c .before .before .enum-told3 .given .1) _ (out-gives (args .count) (text m) (n m) (k m) (sizes m) (args .after .now)))
     (args .at) (args .out .now) (args .list .now) (start told .pre) .1
 
 same-length : tie.Need-same-length
@@ -116,11 +124,15 @@ same-length-2 c = search needs
 
 returns : tie.Need-returns
 returns c =
-    let kept = c .before .before .before .before in
-    let told = kept .before .before .before .before .before in
+    let said = c .before .before in
+    let line = said .before .before .before .before in
+    let kept = line .before .before in
+    let told = kept .before .before in
     let args = start told .args in
-    same-gave _ _ (same told Kept (kept .before .before .before .enum-told .given .1)) (args .at) (args .out .now) (args .list .now)
-    (kept .put-kept .result) (kept .put-kept .last .1 .1 .1 .1 .0) (kept .put-kept .last .1 .1 .1 .1 .1 .0) (kept .put-kept .ensures)
+    let m = left told in
+    gave-both _ _ (same told Kept (kept .enum-told .given .1) _ (kept-gives (args .count) (text m) (n m) (k m) (sizes m) (args .after .now)))
+    (args .at) (args .out .now) (args .list .now)
+    (line .put-line .result) (said .put-faults .result) (line .put-line .last .0) (said .put-faults .last .0) (line .put-line .ensures) (said .put-faults .ensures)
 
 same-length-3 : tie.Need-same-length-3
 same-length-3 c = search needs
@@ -133,7 +145,10 @@ returns-2 c =
     let last = c .before .before .before .before in
     let told = last .before .before .before .before .before in
     let args = start told .args in
-    same-gave _ _ (same told Last (last .before .before .before .enum-told2 .given .1)) (args .at) (args .out .now) (args .list .now)
+    let m = left told in
+    let found = last .before .before .before .enum-told2 .given .1 in
+    same-gave _ _ (same told Last found _ (last-gives (args .count) (text m) (n m) (k m) (sizes m) (args .after .now) (last-is (unblanked (lineOf (text m))) (fate told Last found))))
+    (args .at) (args .out .now) (args .list .now)
     (last .put-last .result) (last .put-last .last .1 .1 .1 .1 .1 .0) (last .put-last .last .1 .1 .1 .1 .1 .1 .0) (last .put-last .ensures)
 
 same-length-5 : tie.Need-same-length-5
@@ -144,8 +159,8 @@ returns-3 c =
     let out = c .before .before in
     let told = out .before .before .before .before .before in
     let args = start told .args in
-    let m = measure told in
-    gave-both _ _ (same told Out (out .before .before .before .enum-told3 .given .1) ∙ out-gives (args .count) (text m) (n m) (k m) (sizes m) (args .after .now))
+    let m = left told in
+    gave-both _ _ (same told Out (out .before .before .before .enum-told3 .given .1) _ (out-gives (args .count) (text m) (n m) (k m) (sizes m) (args .after .now)))
     (args .at) (args .out .now) (args .list .now)
     (args .at .file) (out .put-out .result) (args .out .now) (out .put-out .last .0)
     (put-nothing (args .at .file) (args .out .now)) (out .put-out .ensures)
@@ -157,10 +172,11 @@ put-ended-spec =
     line-length-requires
     slice-aggregate-unblanked-length
     unblanked-length-requires
-    slice-aggregate-fate-of
+    slice-aggregate-line
     fate-of-requires
     enum-told
-    put-kept-requires
+    put-line-requires
+    put-faults-requires
     enum-told-2
     put-last-requires
     enum-told-3

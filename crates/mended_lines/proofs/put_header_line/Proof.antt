@@ -18,8 +18,8 @@ slice-aggregate-unblanked-length c =
 unblanked-length-requires : tie.Need-unblanked-length-requires
 unblanked-length-requires c κs = search needs
 
-slice-aggregate-is-raised : tie.Need-slice-aggregate-is-raised
-slice-aggregate-is-raised c =
+slice-aggregate-line : tie.Need-slice-aggregate-line
+slice-aggregate-line c =
     let left = c .before in
     let size = left .before .before in
     let text = size .before .before .before .before .args .text .now in
@@ -30,18 +30,9 @@ slice-aggregate-is-raised c =
 is-raised-requires : tie.Need-is-raised-requires
 is-raised-requires c κs = search needs
 
-slice-aggregate-put-raised-line : tie.Need-slice-aggregate-put-raised-line
-slice-aggregate-put-raised-line c =
-    let left = c .before .before .before .before in
-    let size = left .before .before in
-    let text = size .before .before .before .before .args .text .now in
-    let n = size .line-length .result in
-    let k = left .unblanked-length .result in
-    mended-counted text n k (measured text n k (size .line-length .ensures) (left .unblanked-length .ensures))
-
 put-raised-line-requires : tie.Need-put-raised-line-requires
 put-raised-line-requires c κs =
-    let told = c .before .before in
+    let told = c .before in
     let left = told .before .before in
     let size = left .before .before in
     let start = size .before .before .before .before in
@@ -53,7 +44,7 @@ put-raised-line-requires c κs =
 
 put-faults-requires : tie.Need-put-faults-requires
 put-faults-requires c κs =
-    let told = c .before .before .before .before .before .before in
+    let told = c .before .before .before .before .before in
     let left = told .before .before in
     let size = left .before .before in
     let start = size .before .before .before .before in
@@ -73,7 +64,7 @@ returns : tie.Need-returns
 returns c =
     let said = c .before .before in
     let line = said .before .before .before .before in
-    let told = line .before .before .before in
+    let told = line .before .before in
     let left = told .before .before in
     let size = left .before .before in
     let start = size .before .before .before .before in
@@ -92,9 +83,8 @@ put-header-line-spec =
     line-length-requires
     slice-aggregate-unblanked-length
     unblanked-length-requires
-    slice-aggregate-is-raised
+    slice-aggregate-line
     is-raised-requires
-    slice-aggregate-put-raised-line
     put-raised-line-requires
     put-faults-requires
     same-length

@@ -9,15 +9,9 @@ use Rattle.cell_permit.specs.CellPermit.{lineEnd}
 use Rattle.file_lines.specs.Lines.{ecs}
 use Rattle.mailed_lines.proofs.Puts.{takes-first, put-both}
 use Rattle.mended_lines.proofs.BothPut.{same-room, gave-both}
-use Rattle.mended_lines.proofs.MeasuredLines.{mended-counted}
-use Rattle.mended_lines.proofs.LineGives.{last-gives}
+use Rattle.mended_lines.proofs.LineGives.{told-gives}
 use Rattle.mended_lines.proofs.put_last.Statement.{statement}
 use Rattle.mended_lines.proofs.put_last.Tie as tie
-
-slice-aggregate-is-raised : tie.Need-slice-aggregate-is-raised
-slice-aggregate-is-raised c =
-    let start = c .before .before .before .before .before in
-    mended-counted (start .args .text .now) (start .args .n) (start .args .k) (start .pre .0)
 
 is-raised-requires : tie.Need-is-raised-requires
 is-raised-requires c κs = search needs
@@ -27,23 +21,23 @@ slice-aggregate-put-line c = search needs
 
 put-line-requires : tie.Need-put-line-requires
 put-line-requires c κs =
-    let start = c .before .before .before .before .before .before .before .before in
+    let start = c .before .before .before .before .before .before .before in
     let args = start .args in
-    takes-first (args .at .file) (ecs ++ lineEnd) (args .after .now) (args .out .now) (start .pre .1 .1 .0)
+    takes-first (args .at .file) (ecs ++ lineEnd) (args .after .now) (args .out .now) (start .pre .0)
 
 put-text-requires : tie.Need-put-text-requires
 put-text-requires c κs = search needs
 
-add-t23 : tie.Need-add-t23
-add-t23 c = search needs
+add-t21 : tie.Need-add-t21
+add-t21 c = search needs
 
 put-faults-requires : tie.Need-put-faults-requires
 put-faults-requires c κs =
     let told = c .before .before .before .before .before .before .before .before .before .before in
-    let start = told .before .before .before .before .before .before in
+    let start = told .before .before .before .before .before in
     let args = start .args in
-    same-room _ _ (last-gives (args .count) (args .text .now) (args .n) (args .k) (start .pre .0) (args .after .now) (start .pre .1 .0) (told .is-raised .result) (told .is-raised .ensures))
-    (args .at) (args .out .now) (args .list .now) (start .pre .1 .1) .1
+    same-room _ _ (told-gives (args .eol) (args .blank) (args .count) (args .line .now) (args .after .now) (told .is-raised .result) (told .is-raised .ensures))
+    (args .at) (args .out .now) (args .list .now) (start .pre) .1
 
 same-length : tie.Need-same-length
 same-length c = search needs
@@ -57,12 +51,12 @@ returns c =
     let rest = said .before .before .before .before in
     let line = rest .before .before .before .before in
     let told = line .before .before .before in
-    let start = told .before .before .before .before .before .before in
+    let start = told .before .before .before .before .before in
     let args = start .args in
-    gave-both _ _ (last-gives (args .count) (args .text .now) (args .n) (args .k) (start .pre .0) (args .after .now) (start .pre .1 .0) (told .is-raised .result) (told .is-raised .ensures))
+    gave-both _ _ (told-gives (args .eol) (args .blank) (args .count) (args .line .now) (args .after .now) (told .is-raised .result) (told .is-raised .ensures))
     (args .at) (args .out .now) (args .list .now)
     (line .put-line .result + length (args .after .now)) (said .put-faults .result) (rest .put-text .last .0) (said .put-faults .last .0)
-    (put-both (args .at .file) (ecs ++ lineEnd) (args .after .now) (args .out .now) (start .pre .1 .1 .0)
+    (put-both (args .at .file) (ecs ++ lineEnd) (args .after .now) (args .out .now) (start .pre .0)
     (line .put-line .result) (line .put-line .result + length (args .after .now)) (line .put-line .last .0) (rest .put-text .last .0)
     (line .put-line .ensures) (refl, rest .put-text .ensures))
     (said .put-faults .ensures)
@@ -71,12 +65,11 @@ pub put-last-spec : {M : Type 1} → statement M
 put-last-spec =
     tie.close
     (tie.spec
-    slice-aggregate-is-raised
     is-raised-requires
     slice-aggregate-put-line
     put-line-requires
     put-text-requires
-    add-t23
+    add-t21
     put-faults-requires
     same-length
     same-length-2

@@ -43,7 +43,7 @@ module _ (told : tie.After-is-ecs) where
 -- :ECS as it is
 module _ (raised : tie.After-is-raised) where
   abbrev test : tie.Else1
-  test = raised .before .before
+  test = raised .before
 
   abbrev from : tie.Start
   from = start (test .before)
@@ -63,8 +63,8 @@ module _ (raised : tie.After-is-raised) where
 unblanked-length-requires : tie.Need-unblanked-length-requires
 unblanked-length-requires c κs = search needs
 
-slice-aggregate-is-ecs : tie.Need-slice-aggregate-is-ecs
-slice-aggregate-is-ecs c =
+slice-aggregate-left : tie.Need-slice-aggregate-left
+slice-aggregate-left c =
     let left = c .before in
     let args = left .before .before .before .before .args in
     left-counted (args .count) (args .line .now) (length (args .line .now)) (left .unblanked-length .result) refl (left .unblanked-length .ensures)
@@ -106,12 +106,6 @@ returns c =
     (end .put-line .result) (said .put-added .result) (end .put-line .last .0) (said .put-added .last .0)
     (end .put-line .ensures) (said .put-added .ensures)
 
-slice-aggregate-is-raised : tie.Need-slice-aggregate-is-raised
-slice-aggregate-is-raised c =
-    let told = c .before .before in
-    let k = left told in
-    left-counted (start told .args .count) (line told) (length (line told)) (k .unblanked-length .result) refl (k .unblanked-length .ensures)
-
 is-raised-requires : tie.Need-is-raised-requires
 is-raised-requires c κs = search needs
 
@@ -121,8 +115,8 @@ slice-aggregate-put-text c = search needs
 put-text-requires : tie.Need-put-text-requires
 put-text-requires c κs = search needs
 
-add-t29 : tie.Need-add-t29
-add-t29 c = omega (arith, room (c .before .before .before .before .before .before) .0 .0)
+add-t27 : tie.Need-add-t27
+add-t27 c = omega (arith, room (c .before .before .before .before .before .before) .0 .0)
 
 put-faults-requires : tie.Need-put-faults-requires
 put-faults-requires c κs = room (c .before .before .before .before .before .before .before) .1
@@ -148,7 +142,7 @@ put-unended-spec =
     tie.close
     (tie.spec
     unblanked-length-requires
-    slice-aggregate-is-ecs
+    slice-aggregate-left
     is-ecs-requires
     slice-aggregate-put-line
     put-line-requires
@@ -156,11 +150,10 @@ put-unended-spec =
     same-length
     same-length-2
     returns
-    slice-aggregate-is-raised
     is-raised-requires
     slice-aggregate-put-text
     put-text-requires
-    add-t29
+    add-t27
     put-faults-requires
     same-length-3
     same-length-4
