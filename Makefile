@@ -24,7 +24,7 @@ PLACE = $(DESTDIR)$(PREFIX)
 export RT_JOBS ?= $(shell n=$$(nproc); echo $$((n < 4 ? n + 1 : 5)))
 
 COMPARISONS = $(basename $(notdir $(shell grep -l run_subjects tests/*.c)))
-MODEL = $(addprefix target/tests/,model.o model_book.o model_cell_file.o model_file.o model_products.o)
+MODEL = $(addprefix target/tests/,model.o model_book.o model_cell_file.o model_file.o model_mending.o model_products.o)
 
 # what a crate is made of: its own files and those of all that it uses, and their folders, which tell of a file taken away
 files_of = crates.txt $(foreach crate,$(shell tests/crates $(1)),$(shell find crates/$(crate) -name must-fail -prune -o -print))
