@@ -6,6 +6,7 @@
 
 #define LIST_ROOM ((size_t)16 << 20)
 #define MOST_BLANKS 20
+#define NOBODY 0 /* in the place of a HW_ID: mending looks at no check part */
 
 /* What a line that is kept may have been mailed with; the rules' CASE is a word of C. */
 enum { EOL = 1, BLANK = 2, LETTERS = 4 };
@@ -117,11 +118,24 @@ static inline void mail_header(unsigned of, int any_date)
     mail_line(":ENC", 4, some_faults(of), 1);
 }
 
-/* A good line that does not end with a blank, its cipher parts typed in either case. The answer is its length. */
+/* A line of the shape, whose cipher parts are hex of no ship. */
+static inline size_t line_of_nobody(const record *r, uint8_t *line)
+{
+    char start[17];
+    for (int i = 0; i < 8; i++)
+        start[i] = (char)(r->name >> 8 * (7 - i));
+    snprintf(start + 8, sizeof start - 8, "%08" PRIu32, r->expiry);
+    memcpy(line, start, CIPHER_PARTS);
+    for (size_t at = CIPHER_PARTS; at < CELL_PERMIT; at++)
+        line[at] = (uint8_t)HEX[random_below(16)];
+    return put_fields(r, line);
+}
+
+/* A good line that does not end with a blank, its cipher parts typed in either case; for a ship, or for NOBODY. The answer is its length. */
 static inline size_t some_line(uint8_t *line, uint64_t hw_id)
 {
     record r = some_record(some_date());
-    size_t length = line_of(&r, hw_id, line);
+    size_t length = hw_id == NOBODY ? line_of_nobody(&r, line) : line_of(&r, hw_id, line);
     type_hex(line + CIPHER_PARTS, CELL_PERMIT - CIPHER_PARTS);
     while (line[length - 1] == ' ')
         length--;
