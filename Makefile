@@ -140,9 +140,9 @@ target/tests/%.o: tests/%.c $(wildcard tests/*.h) $(HEADER) | target/packages
 target/tests/%: tests/%.c $(wildcard tests/*.h) $(MODEL) $(LIBRARY) $(PROBE)
 	$(CC) $(CFLAGS) -Itarget/include -o $@ $< $(MODEL) $(LIBRARY) $(PROBE) -lcrypto -lz
 
-target/bench/bench: bench/bench.c bench/book.c bench/products.c $(wildcard bench/*.h tests/*.h) $(MODEL) $(LIBRARY) $(PROBE) | target/bench-packages
+target/bench/bench: bench/bench.c bench/book.c bench/mending.c bench/products.c $(wildcard bench/*.h tests/*.h) $(MODEL) $(LIBRARY) $(PROBE) | target/bench-packages
 	mkdir -p $(@D)
-	$(CC) $(CFLAGS) -Itarget/include -Itests $(BOTAN) -o $@ $< bench/book.c bench/products.c $(MODEL) $(LIBRARY) $(PROBE) -lcrypto -lz -lbotan-2
+	$(CC) $(CFLAGS) -Itarget/include -Itests $(BOTAN) -o $@ $< bench/book.c bench/mending.c bench/products.c $(MODEL) $(LIBRARY) $(PROBE) -lcrypto -lz -lbotan-2
 
 # with OpenSSL and zlib in it, so that both programs load the C library and nothing else
 target/bench/look_through: bench/look_through.c $(wildcard tests/*.h) $(MODEL) $(HEADER)
