@@ -427,16 +427,17 @@ static void line_ends(void)
     }
 }
 
-/* Where the byte that is put in or put there may change the most: what is looked at is the whole file each time. */
-static void set_bytes_file(void)
+/* Lines of each kind, some of them with faults, and something after :ECS. */
+static void set_mixed_file(void)
 {
-    set_file(":Date 20240131 09:30\r\n:VERSION 2 \n:ENC\r\n" P "to\r\n" Q " \n:ecs \r\n: ", 20 + 2 + 12 + 4 + 2 + sizeof P - 1 + 4 + sizeof Q - 1 + 2 + 5 + 2 + 2);
+    file.length = 0;
+    add_words(&file, ":Date 20240131 09:30\r\n:VERSION 2 \n:ENC\r\n" P "to\r\n" Q " \n:ecs \r\n: ");
 }
 
 /* Each byte of a file as each other byte. */
 static void bytes(void)
 {
-    set_bytes_file();
+    set_mixed_file();
     succeeded = refused = 0;
     for (size_t at = 0; at < file.length; at++)
         for (int add = 1; add < 256; add++) {
@@ -451,7 +452,7 @@ static void bytes(void)
 /* Each byte put in at each place, and each byte left out. */
 static void bytes_put_in(void)
 {
-    set_bytes_file();
+    set_mixed_file();
     succeeded = refused = 0;
     for (size_t at = 0; at <= file.length; at++) {
         memmove(file.bytes + at + 1, file.bytes + at, file.length++ - at);
@@ -607,13 +608,15 @@ static void headers(void)
         expect(compare_file((const uint8_t *)header, (size_t)length), i / 4 < COUNT(limit_dates) ? 0 : 12);
     }
     for (int mixture = 0; mixture < 5 * 5 * 5 * 5 * 4; mixture++) {
+        int in_order = 1;
         file.length = 0;
         for (int i = 0, rest = mixture / 4; i < 4; i++, rest /= 5) {
             add_words(&file, lines[rest % 5]);
             add_words(&file, ends[mixture % 4]);
+            in_order &= i == HEADER_LINES || rest % 5 == i;
         }
-        ABOUT("lines %d", mixture);
-        expect(compare_file(file.bytes, file.length), mixture / 4 % 125 == 0 + 5 * 1 + 25 * 2 ? 0 : 12);
+        ABOUT("mixture %d of lines", mixture);
+        expect(compare_file(file.bytes, file.length), in_order ? 0 : 12);
     }
 }
 
@@ -645,9 +648,17 @@ static void counts(void)
     }
 }
 
-/* Short files into outputs of each length up to what is needed and beyond it; longer ones about that. */
+/* Short files into outputs of each length up to what is needed and beyond it; longer ones about that. What the header says of the clean file's length is met:
+   by lines that are as short as they can be, with lone LFs and no :ECS. */
 static void outputs(void)
 {
+    set_file(":DATE 20240131 09:30\n:VERSION 2\n:ENC\n", HEADER_LENGTH - 3);
+    for (size_t lines = 0; lines < 400; lines++) {
+        ABOUT("%zu of the shortest lines", lines);
+        expect(compare_file(file.bytes, file.length), 0);
+        same(made.length, file.length + file.length / 72 + 9, "%s: the greatest length", about);
+        add_words(&file, Q "\n");
+    }
     static const char *const rests[] = {":ECS", ":ECS\r\n", "", ":ecs\n", "\n:ecs \nxyz", "x", P "\n", P " \n:ECS\n "};
     for (size_t i = 0; i < COUNT(rests) * 2; i++) {
         set_file(i % 2 ? ":date 20240131 09:30\n:VERSION 2\r\n:ENC\r\n" : HEADER_TEXT, HEADER_LENGTH - i % 2);
