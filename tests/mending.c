@@ -555,6 +555,39 @@ static void ecs(void)
             }
 }
 
+/* Lines of which each field is at its limits and beside them, and whose expiry is a date or none. */
+static void shapes(void)
+{
+    static const char *const levels[] = {"0", "1", "2", "/", "", "00", "01", " 0", "0 ", "A"};
+    static const char *const editions[] = {"",    "1",   "9",    "10",   "99", "100", "999", "0",  "00", "01", "010", "099",
+                                           "1000", "9999", "-1", "+1", " ",  "1 ",  " 1",  "1A", "A",  ":",  "/",   ",1"};
+    static const char *const servers[] = {"GB", "00", "ZZ", "A9", "G", "", "GBR", "gB", "Gb", "G ", " G", "@A", "[A", "/0", ":0", "`a", "{a"};
+    static const char *const comments[] = {"", ",", ",x", ",a,b,", ", ", ",~ ", ",\x7F", ",\x1F", ",\xE9", " ,"};
+    for (size_t i = 0; i < COUNT(levels) * COUNT(editions) * COUNT(servers) * COUNT(comments); i++) {
+        size_t rest = i;
+        set_file(HEADER_TEXT P, HEADER_LENGTH + CELL_PERMIT);
+        add_words(&file, ",");
+        add_words(&file, levels[rest % COUNT(levels)]);
+        add_words(&file, ",");
+        add_words(&file, editions[(rest /= COUNT(levels)) % COUNT(editions)]);
+        add_words(&file, ",");
+        add_words(&file, servers[(rest /= COUNT(editions)) % COUNT(servers)]);
+        add_words(&file, comments[rest / COUNT(servers)]);
+        add_words(&file, i % 7 ? "\r\n" : "\n");
+        ABOUT("fields of kind %zu", i);
+        expect(compare_file(file.bytes, file.length), 0);
+    }
+    for (size_t i = 0; i < COUNT(limit_dates) + COUNT(no_dates); i++) {
+        char date[12];
+        snprintf(date, sizeof date, "%08" PRIu32, i < COUNT(limit_dates) ? limit_dates[i] : no_dates[i - COUNT(limit_dates)]);
+        set_file(HEADER_TEXT P "\r\n", HEADER_LENGTH + sizeof P + 1);
+        memcpy(file.bytes + HEADER_LENGTH + 8, date, 8);
+        ABOUT("expiry %s", date);
+        expect(compare_file(file.bytes, file.length), 0);
+        same(made.length, i < COUNT(limit_dates) ? file.length + 6 : HEADER_LENGTH + 6, "%s: length", about);
+    }
+}
+
 /* Lines about the greatest length, with blanks at their end or without. The bytes are counted without these. */
 static void lengths(void)
 {
@@ -620,7 +653,7 @@ static void headers(void)
     }
 }
 
-/* So many lines that counts have one to seven digits, with each kind of entry about each power of ten. */
+/* So many lines that counts have one to seven digits, with each kind of entry about each power of ten; and as many bytes after :ECS. */
 static void counts(void)
 {
     static const size_t most[] = {12, 105, 1005, 10005, 100005, 1000005};
@@ -639,9 +672,11 @@ static void counts(void)
             else
                 mail_junk(NOBODY, "\n");
         }
-        if (i % 2)
+        if (i % 2) {
             mail_line(":ECS", 4, EOL | BLANK | LETTERS, 1);
-        else
+            add(&mailed, any, most[i / 2]);
+            add(&clean, any, most[i / 2]);
+        } else
             mail_no_ecs();
         ABOUT("%zu lines", mailed_lines);
         compare_mailed();
@@ -782,6 +817,7 @@ int main(int argc, char **argv)
         {"mending-blanks", blanks},
         {"mending-letters", letters},
         {"mending-ecs", ecs},
+        {"mending-shapes", shapes},
         {"mending-lengths", lengths},
         {"mending-headers", headers},
         {"mending-counts", counts},
