@@ -145,8 +145,9 @@ static inline size_t some_line(uint8_t *line, uint64_t hw_id)
 /* A line that gives 12 whatever is mended of it, without CR and LF. The answer is its length, LONGEST_LINE + 40 at most. */
 static inline size_t some_junk(uint8_t *line, uint64_t hw_id)
 {
-    static const char *const words[] = {"", "Dear captain,", "> :ECS", "-- ", "\t", "\t:ECS", ":ENC", ":ECS.", ":ECSS", "ECS", ": ECS", "ECS:", " :ECS", "::ECS",
-                                        ":ECS\t", ":EC", ":ecs\x80", ":DATE 20240131 09:30", ":VERSION 2", "=20", ",,,,", "\xEF\xBB\xBF:ECS", ":\xC5\xC3\xD3", "\x1A"};
+    static const char *const words[] = {"", "Dear captain,", "> :ECS", "-- ", "\t", "\t:ECS", ":ENC", ":ECS.", ":ECSS", "ECS", ": ECS", "ECS:",
+                                        " :ECS", "::ECS", ":ECS\t", ":EC", ":ecs\x80", ":DATE 20240131 09:30", ":VERSION 2", "=20", ",,,,",
+                                        "\xEF\xBB\xBF:ECS", ":\xC5\xC3\xD3", "\x1A"};
     size_t length = some_line(line, hw_id), at;
     char digits[12];
     switch (random_below(9)) {

@@ -131,7 +131,8 @@ static void refusals(void)
 static void sizes(void)
 {
     static const size_t sizes[] = {65000, INPUT - 1, INPUT, INPUT + 1, INPUT + 2, sizeof input};
-    static const char *const fillings[] = {"\n", "\r\n", "x", " ", "\r", "ab\n", ":ECS\r\n\n", ":ecs \n", "XX000000" "19000101" "000000000000000000000000000000000000000000000000" ",0,,XX,\n"};
+    static const char *const fillings[] = {"\n", "\r\n", "x", " ", "\r", "ab\n", ":ECS\r\n\n", ":ecs \n",
+                                           "XX00000019000101000000000000000000000000000000000000000000000000,0,,XX,\n"};
     for (size_t i = 0; i < COUNT(sizes) * COUNT(fillings); i++) {
         const char *filling = fillings[i % COUNT(fillings)];
         length = 0;
