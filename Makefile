@@ -1,7 +1,7 @@
-# make run      prove the look-through and the library, look through the sample PERMIT.TXT, show the desk at work, which charts of a ship are behind,
-#               and a cell file enciphered and opened
+# make run      prove both programs and the library, look through the sample PERMIT.TXT, mend one that came by mail, show the desk at work, which charts
+#               of a ship are behind, and a cell file enciphered and opened
 # make test     the whole gate: every proof, then the comparisons with programs of others
-# make bench    our cipher, checksum, permits, book, product list, cell files and look-through beside OpenSSL's, Botan's, zlib's and plain C
+# make bench    our cipher, checksum, permits, mending, book, product list, cell files and look-through beside OpenSSL's, Botan's, zlib's and plain C
 # make lib      the library for C: target/staticlib/liblambukir.a, target/sharedlib/liblambukir.so and target/include/lambukir.h
 # make install  what make lib built, with a pkg-config file and the samples, below PREFIX, or below DESTDIR and PREFIX; it proves nothing
 # make help     this list
@@ -24,7 +24,7 @@ PLACE = $(DESTDIR)$(PREFIX)
 export RT_JOBS ?= $(shell n=$$(nproc); echo $$((n < 4 ? n + 1 : 5)))
 
 COMPARISONS = $(basename $(notdir $(shell grep -l run_subjects tests/*.c)))
-MODEL = $(addprefix target/tests/,model.o model_book.o model_cell_file.o model_file.o model_products.o)
+MODEL = $(addprefix target/tests/,model.o model_book.o model_cell_file.o model_file.o model_mending.o model_products.o)
 
 # what a crate is made of: its own files and those of all that it uses, and their folders, which tell of a file taken away
 files_of = crates.txt $(foreach crate,$(shell tests/crates $(1)),$(shell find crates/$(crate) -name must-fail -prune -o -print))
@@ -37,6 +37,8 @@ help:
 run: target/compiler proved target/sample/desk target/sample/standing target/sample/cell_file
 	@printf '\nThe look-through of sample/PERMIT.TXT:\n\n'
 	@sample/look_through
+	@printf '\nsample/MAILED.TXT as it came by mail, where ^M is CR and $$ is LF:\n\n'
+	@sample/mend
 	@printf '\nThe desk at work:\n\n'
 	@tests/x86-64 target/sample/desk
 	@printf '\nThe charts of a ship, held against sample/PRODUCTS.TXT:\n\n'
@@ -64,7 +66,7 @@ install: built
 		'Name: lambukir' 'Description: S-63 user permits, cell permits, PERMIT.TXT files, product lists, cell files and the book of cell keys' 'Version: $(VERSION)' \
 		'Cflags: -I$${includedir}' 'Libs: -L$${libdir} -llambukir' | install -m 644 /dev/stdin '$(PLACE)/lib/pkgconfig/lambukir.pc'
 	install -m 644 README.md LICENSE '$(PLACE)/share/doc/lambukir'
-	install -m 644 $(wildcard sample/*.c sample/*.py) sample/PERMIT.TXT sample/PRODUCTS.TXT '$(PLACE)/share/doc/lambukir/sample'
+	install -m 644 $(wildcard sample/*.c sample/*.py) sample/PERMIT.TXT sample/MAILED.TXT sample/PRODUCTS.TXT '$(PLACE)/share/doc/lambukir/sample'
 
 # What make lib builds is there, and of one build: the shared library comes last, and tests/prove gives a library the time 0 where a proof failed.
 # A source that is newer is told and no more, since a checkout or a copy of the tree makes sources newer that are as they were.
@@ -76,12 +78,15 @@ built: $(filter lib,$(MAKECMDGOALS))
 		-name must-fail -prune -o -type f -newer $(SHARED) -print | head -n 1); \
 		[ -z "$$newer" ] || echo "This installs what was built before $$newer changed." >&2
 
-# program and library in one count
+# programs and library in one count
 proved:
-	@tests/prove look_through lambukir
+	@tests/prove look_through mend lambukir
 
 target/bin/look_through: $(call files_of,look_through)
 	@tests/prove look_through
+
+target/bin/mend: $(call files_of,mend)
+	@tests/prove mend
 
 $(LIBRARY): $(call files_of,lambukir)
 	@tests/prove lambukir
@@ -135,9 +140,9 @@ target/tests/%.o: tests/%.c $(wildcard tests/*.h) $(HEADER) | target/packages
 target/tests/%: tests/%.c $(wildcard tests/*.h) $(MODEL) $(LIBRARY) $(PROBE)
 	$(CC) $(CFLAGS) -Itarget/include -o $@ $< $(MODEL) $(LIBRARY) $(PROBE) -lcrypto -lz
 
-target/bench/bench: bench/bench.c bench/book.c bench/products.c $(wildcard bench/*.h tests/*.h) $(MODEL) $(LIBRARY) $(PROBE) | target/bench-packages
+target/bench/bench: bench/bench.c bench/book.c bench/mending.c bench/products.c $(wildcard bench/*.h tests/*.h) $(MODEL) $(LIBRARY) $(PROBE) | target/bench-packages
 	mkdir -p $(@D)
-	$(CC) $(CFLAGS) -Itarget/include -Itests $(BOTAN) -o $@ $< bench/book.c bench/products.c $(MODEL) $(LIBRARY) $(PROBE) -lcrypto -lz -lbotan-2
+	$(CC) $(CFLAGS) -Itarget/include -Itests $(BOTAN) -o $@ $< bench/book.c bench/mending.c bench/products.c $(MODEL) $(LIBRARY) $(PROBE) -lcrypto -lz -lbotan-2
 
 # with OpenSSL and zlib in it, so that both programs load the C library and nothing else
 target/bench/look_through: bench/look_through.c $(wildcard tests/*.h) $(MODEL) $(HEADER)

@@ -6,6 +6,7 @@
      decipher      the same
      CRC-32        48 bytes, as of a cell permit, another 48 each time
      permits       the calls of lambukir.h beside the model's of tests/, see permits.h: to refuse a line is to read one whose last byte is wrong
+     mend          a mailed file of 60,000 bytes, most of it good and badly mailed, beside mending.h's, written by hand in C, see mailed.h
      book          the calls of lambukir.h beside book.h's, written by hand in C, see desk.h: enter and then withdraw, two calls, in a book with
                    511 records, for a tenant and for the house; the others in a full one; judging is asking for a cell that is not there, once
                    where last expiries come in runs and once where each record has another one than that before it; a producer is asked for of
@@ -24,6 +25,7 @@
 
 #include "charts.h"
 #include "desk.h"
+#include "mailed.h"
 #include "measure.h"
 #include "permits.h"
 #include "probe.h"
@@ -124,6 +126,12 @@ int main(void)
     measure("write line", our_write, their_write, "plain C", 20);
     measure("read file line", our_file_line, their_file_line, "plain C", 20);
     measure("reach a file's end", our_file_end, their_file_end, "plain C", 10000);
+    if (!make_mails()) {
+        puts("the mended files differ: no more is measured");
+        return 1;
+    }
+    measure("mend 60000 bytes", our_good_mail, their_good_mail, "plain C", 1);
+    measure("  badly mailed", our_bad_mail, their_bad_mail, "plain C", 1);
     if (!make_books()) {
         puts("the books differ: no more is measured");
         return 1;

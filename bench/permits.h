@@ -95,7 +95,7 @@ static void look_through(const char *path, int calls)
     int status, nowhere = need(open("/dev/null", O_WRONLY), "/dev/null");
     for (int i = 0; i < calls; i++) {
         need((int)lseek(look_through_input, 0, SEEK_SET), "lseek");
-        need(waitpid(start_program(path, look_through_input, nowhere), &status, 0), "waitpid");
+        need(waitpid(start_program(path, look_through_input, nowhere, 2), &status, 0), "waitpid");
         if (status != 0)
             need(-1, path);
     }

@@ -1,9 +1,9 @@
 /* lambukir.h
 
-   Lambukir for C: S-63 user permits, cell permits, PERMIT.TXT files, product
-   lists (PRODUCTS.TXT) and enciphered cell files, with the cipher and the
-   checksum that these are made of, and the book of cell keys that sixteen
-   agents share.
+   Lambukir for C: S-63 user permits, cell permits, PERMIT.TXT files, read and
+   mended, product lists (PRODUCTS.TXT) and enciphered cell files, with the
+   cipher and the checksum that these are made of, and the book of cell keys
+   that sixteen agents share.
 
    Link with liblambukir.so or liblambukir.a: pkg-config has the flags, under the
    name lambukir. Both need the C library and nothing else, and both are for
@@ -21,19 +21,18 @@
 
    A call takes a microsecond or two, and some 35 more for each key of the
    cipher that it has to set up: where it does, it says "one key set-up". Only
-   what goes through a long slice takes longer: a CRC-32, a product list, a cell
-   file.
+   what goes through a long slice takes longer: a CRC-32, a permit file that is
+   mended, a product list, a cell file.
 
    Slices
 
    A slice is two arguments: a pointer to its first byte, and its length in
    bytes. The caller owns the bytes, before and after. A call reads them, writes
-   none but those of a slice named out and of a book that is not const, and
-   keeps no pointer. Slices lent to one call do not overlap. Where the length is
-   0 the pointer may be anything, also NULL, and is not followed. Texts have no
-   NUL at their end; a NUL is a byte like any other. (The quotas of
-   lambukir_open_book are the one slice of other things than bytes: its length
-   counts numbers.)
+   none but those of a slice that is not const, and keeps no pointer. Slices
+   lent to one call do not overlap. Where the length is 0 the pointer may be
+   anything, also NULL, and is not followed. Texts have no NUL at their end; a
+   NUL is a byte like any other. (The quotas of lambukir_open_book are the one
+   slice of other things than bytes: its length counts numbers.)
 
    Values
 
@@ -132,9 +131,9 @@
 /* The version of this header: as text, and as a number, 10000 for the first of
    its three, 100 for the second and 1 for the third. While the first is 0, a
    new second number may change the interface, and the shared library's name
-   changes with it (liblambukir.so.0.13). */
-#define LAMBUKIR_VERSION "0.13.0"
-#define LAMBUKIR_VERSION_NUMBER 1300
+   changes with it (liblambukir.so.0.14). */
+#define LAMBUKIR_VERSION "0.14.0"
+#define LAMBUKIR_VERSION_NUMBER 1400
 
 /* The numbers that come back
 
@@ -450,6 +449,75 @@ typedef struct {
 lambukir_file_line
 lambukir_read_file_line(uint64_t hw_id, uint32_t today, uint32_t days,
                         const uint8_t *file, size_t file_length, size_t place);
+
+/* Mailed PERMIT.TXT files
+
+   Mail programs break a PERMIT.TXT, so that reading it gives 12. lambukir_mend
+   writes a clean file of it, and a list of what it did.
+
+   Each LF ends a line of the old file. The line's bytes are those before it,
+   less one CR directly before it. What stands after the last LF, if anything,
+   is a line too, an unended one, and a CR at its end is one of its bytes. Any
+   other CR is a byte of its line. Lines are counted from 1. These four faults
+   are mended, and nothing else is:
+
+     EOL    the line's LF has no CR before it
+     BLANK  blanks (20 hex) stand at the line's end, be it that of a comment:
+            they go
+     CASE   one of the first three lines has small letters, a to z: they are
+            raised; or a later line is, blanks gone, :ecs in any case but
+            capitals: it is :ECS then
+     ECS    no line after the third is, mended, :ECS: that is added at the end,
+            with CR LF
+
+   The first three lines, mended, are a header as lambukir_open_file wants it.
+   After them each line up to :ECS is kept, mended and with CR LF, where it then
+   has the shape of a permit line, so that reading it would not give 12; else it
+   is left out. An unended line is left out whatever it is, but for :ECS, which
+   is kept without a line end. What follows a line :ECS that is ended is copied
+   as it stands. A permit's 64 characters are never touched.
+
+   The list tells of the lines in their order. For each fault of a line that was
+   kept it has the line's count, a blank, the fault's word and LF, in the order
+   above. For a line that was left out it has the count, a blank, OUT, a blank,
+   the line's old bytes without the line end, blanks and all, and LF; these may
+   be bytes of any kind. An added :ECS is counted one past the last line. Where
+   the first line is :Date 20240131 09:30 with a lone LF, the fourth and last is
+   Dear captain, and the others are as they should be, the list is
+
+     1 EOL
+     1 CASE
+     4 OUT Dear captain,
+     5 ECS
+
+   Nothing is lost unsaid: each old line up to :ECS is kept, or its bytes are in
+   the list. The list is empty exactly where the clean file is the old one, and
+   a clean file that is mended again is such. Read line by line, a clean file
+   never gives 12, and gives what the kept lines, mended, give one by one. */
+
+/* How many bytes were written at the start of out and of list. */
+typedef struct {
+  uint64_t length;
+  uint64_t list_length;
+  uint32_t number;
+} lambukir_mended;
+
+/* Mends a file: writes the clean one to the start of out, and the list to the
+   start of list. The bytes after them stay as they were. No key set-up: the
+   time goes by the file's length, and make bench measures 60,000 bytes.
+
+   The clean file has at most file_length + file_length / 72 + 9 bytes. The list
+   has at most 11 * file_length bytes where the file is shorter than 100,000,
+   and 26 * file_length where it is not; of most files it is far shorter.
+   Whoever gets 108 can try again with longer outputs.
+
+   Refusals, in this order: 12, the first three lines, mended, are no header, or
+   the third is not ended; 108, the clean file is longer than out, or the list
+   longer than list, and then neither is written. */
+lambukir_mended
+lambukir_mend(const uint8_t *file, size_t file_length,
+              uint8_t *out, size_t out_length,
+              uint8_t *list, size_t list_length);
 
 /* Product lists
 

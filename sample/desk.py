@@ -2,7 +2,7 @@
 import sys
 from ctypes import CDLL, POINTER, Structure, c_char, c_char_p, c_size_t, c_uint16, c_uint32, c_uint64
 
-library = CDLL(sys.argv[1] if len(sys.argv) > 1 else "liblambukir.so.0.13")
+library = CDLL(sys.argv[1] if len(sys.argv) > 1 else "liblambukir.so.0.14")
 
 # Slices, each a pointer and a length. Where the header says const, bytes may be lent as they are; where a call writes, a bytearray, by lend().
 CONST, OUT, QUOTAS = (c_char_p, c_size_t), (POINTER(c_char), c_size_t), (POINTER(c_uint16), c_size_t)

@@ -20,7 +20,7 @@ typedef struct {
     size_t length;
 } slice;
 
-enum { BOOK, BOOK_1, NEW_BOOK, REGISTER, PERMIT, LINE, LINES, LIST, IDS, PRINCIPALS, KEY, TEXT, CELL, ENCIPHERED, OUT, LONG_OUT, QUOTAS, SLICES };
+enum { BOOK, BOOK_1, NEW_BOOK, REGISTER, PERMIT, LINE, LINES, MAILED, LIST, IDS, PRINCIPALS, KEY, TEXT, CELL, ENCIPHERED, OUT, LONG_OUT, TOLD, QUOTAS, SLICES };
 
 static uint8_t book[LAMBUKIR_BOOK_SIZE], book_1[LAMBUKIR_BOOK_SIZE_1], new_book[LAMBUKIR_BOOK_SIZE];
 static uint8_t cell[CELL_LENGTH], enciphered[CELL_LENGTH + 8], long_out[CELL_LENGTH + 8];
@@ -29,7 +29,8 @@ static uint8_t out[LAMBUKIR_LINE_SIZE], permit[LAMBUKIR_USER_PERMIT_SIZE], line[
 static const char ids[] = "NODEA2A3A4A5A6A7A8A9B0B1B2B3B4B5";
 static const char list[] = ":DATE 20240131 09:30\r\n:VERSION 2\r\n:CONTENT FULL\r\n:ENC\r\n"
                            "NO4D0613.000,20240101,10,,,,,,,,2,1,0,,B1,\r\nDE416080.000,20240101,3,,,,,,,,2,1,0,,B1,\r\n:ECS\r\n";
-static char file[200]; /* a permit file with that one line */
+static char file[200], mailed[200]; /* a permit file with that one line, and the same with each fault and a line that is left out */
+static uint8_t told[300];
 static uint16_t quotas[LAMBUKIR_TENANTS] = {5};
 static const uint8_t principals[LAMBUKIR_TENANTS] = {0, 1};
 
@@ -42,6 +43,7 @@ static void fill(slice s[SLICES])
     lambukir_make_user_permit((const uint8_t *)"0198765", 7, HW_ID, 0x3031, permit, sizeof permit);
     lambukir_written written = lambukir_write_line(HW_ID, NAME, EXPIRY, 1, 2, 0, 10, 0x4742, line, sizeof line);
     int length = snprintf(file, sizeof file, ":DATE 20240131 09:30\r\n:VERSION 2\r\n:ENC\r\n%.*s:ECS\r\n", (int)written.length, (const char *)line);
+    int mailed_length = snprintf(mailed, sizeof mailed, ":Date 20240131 09:30\n:VERSION 2 \r\n:ENC\r\n%.*s \nSHORT\n", (int)written.length - 2, (const char *)line);
     lambukir_encipher_file(CELL_KEY, cell, sizeof cell, enciphered, sizeof enciphered);
     cell_crc = lambukir_crc32(cell, sizeof cell);
     const slice all[SLICES] = {
@@ -52,6 +54,7 @@ static void fill(slice s[SLICES])
         [PERMIT] = {permit, sizeof permit},
         [LINE] = {line, written.length - 2},
         [LINES] = {(const uint8_t *)file, (size_t)length},
+        [MAILED] = {(const uint8_t *)mailed, (size_t)mailed_length},
         [LIST] = {(const uint8_t *)list, sizeof list - 1},
         [IDS] = {(const uint8_t *)ids, LAMBUKIR_IDS_SIZE},
         [PRINCIPALS] = {principals, sizeof principals},
@@ -61,6 +64,7 @@ static void fill(slice s[SLICES])
         [ENCIPHERED] = {enciphered, sizeof enciphered},
         [OUT] = {out, sizeof out},
         [LONG_OUT] = {long_out, sizeof long_out},
+        [TOLD] = {told, sizeof told},
         [QUOTAS] = {(const uint8_t *)quotas, LAMBUKIR_TENANTS},
     };
     memcpy(s, all, sizeof all);
@@ -71,11 +75,11 @@ static void fill(slice s[SLICES])
 #define LENT_TEXT (const char *)s[TEXT].bytes, s[TEXT].length
 
 /* Every function that takes a slice, each once; what one answers is told as one number. */
-#define CALLS 30
+#define CALLS 31
 #define STANDING 7
 #define CRC 14
 #define CARRY_OVER 24
-#define CELL_FILES 26 /* the first of those on cell files, which come last */
+#define CELL_FILES 27 /* the first of those on cell files, which come last */
 
 static uint64_t call(int which, const slice s[SLICES])
 {
@@ -106,9 +110,10 @@ static uint64_t call(int which, const slice s[SLICES])
     case 23: return lambukir_house_enter(WRITTEN(BOOK), 0, NAME + 1, 11, 3, 4, 0).number;
     case CARRY_OVER: return lambukir_carry_over(LENT(BOOK_1), WRITTEN(NEW_BOOK));
     case 25: return lambukir_house_withdraw(WRITTEN(BOOK), 0, NAME).number;
+    case 26: return lambukir_mend(LENT(MAILED), WRITTEN(LONG_OUT), WRITTEN(TOLD)).number;
     case CELL_FILES: return lambukir_encipher_file(CELL_KEY, LENT(CELL), WRITTEN(LONG_OUT)).length;
-    case 27: return lambukir_encipher_part(CELL_KEY, 0x010203, 3, LENT(CELL), WRITTEN(LONG_OUT)).carried;
-    case 28: return lambukir_encipher_end(CELL_KEY, 0x010203, 3, WRITTEN(OUT)).number;
+    case 28: return lambukir_encipher_part(CELL_KEY, 0x010203, 3, LENT(CELL), WRITTEN(LONG_OUT)).carried;
+    case 29: return lambukir_encipher_end(CELL_KEY, 0x010203, 3, WRITTEN(OUT)).number;
     default: return lambukir_open_cell_file(LENT(ENCIPHERED), OTHER_KEY, CELL_KEY, cell_crc, WRITTEN(LONG_OUT)).number;
     }
 }

@@ -16,6 +16,7 @@ lambukir_written model_write_line(uint64_t hw_id, uint64_t name, uint32_t expiry
                                   uint32_t edition, uint32_t server, uint8_t *out, size_t out_length);
 lambukir_place model_open_file(const uint8_t *file, size_t file_length);
 lambukir_file_line model_read_file_line(uint64_t hw_id, uint32_t today, uint32_t days, const uint8_t *file, size_t file_length, size_t place);
+lambukir_mended model_mend(const uint8_t *file, size_t file_length, uint8_t *out, size_t out_length, uint8_t *list, size_t list_length);
 lambukir_standing model_product_standing(const uint8_t *list, size_t list_length, uint64_t name, uint32_t edition, uint32_t update);
 lambukir_written model_encipher_file(uint64_t key, const uint8_t *file, size_t file_length, uint8_t *out, size_t out_length);
 lambukir_part_written model_encipher_part(uint64_t key, uint64_t carried, uint32_t carried_length, const uint8_t *part, size_t part_length, uint8_t *out,

@@ -18,14 +18,15 @@ static inline int need(int answer, const char *what)
     exit(1);
 }
 
-/* Starts a program with these for standard input and output, under the emulator that tests/x86-64 names, if any; the answer is its process. */
-static inline pid_t start_program(const char *path, int input, int output)
+/* Starts a program with these for standard input, output and error, under the emulator that tests/x86-64 names, if any; the answer is its process. */
+static inline pid_t start_program(const char *path, int input, int output, int errors)
 {
     pid_t child = need(fork(), "fork");
     if (child != 0)
         return child;
     dup2(input, 0);
     dup2(output, 1);
+    dup2(errors, 2);
     const char *emulator = getenv("EMULATOR");
     if (emulator)
         execl(emulator, emulator, path, (char *)NULL);
@@ -65,23 +66,35 @@ static inline int pipe_of(const uint8_t *bytes, size_t length, size_t piece, pid
     return ends[0];
 }
 
-/* All that a program prints, at most `room` bytes of it, and its exit status (-1: it did not end by itself). */
-static inline size_t printed_by(const char *path, int input, uint8_t *out, size_t room, int *status)
+/* All that can be read, at most `room` bytes of it. */
+static inline size_t read_all(int from, uint8_t *out, size_t room)
 {
-    int ends[2], ended;
     size_t length = 0;
     ssize_t more;
+    while (length < room && (more = read(from, out + length, room - length)) > 0)
+        length += (size_t)more;
+    close(from);
+    return length;
+}
+
+/* All that a program prints, at most `room` bytes of it, and its exit status (-1: it did not end by itself). Errors go to the file that is given for them. */
+static inline size_t printed_beside(const char *path, int input, int errors, uint8_t *out, size_t room, int *status)
+{
+    int ends[2], ended;
     need(pipe(ends), "pipe");
     fflush(stdout);
-    pid_t child = start_program(path, input, ends[1]);
+    pid_t child = start_program(path, input, ends[1], errors);
     close(ends[1]);
     close(input);
-    while (length < room && (more = read(ends[0], out + length, room - length)) > 0)
-        length += (size_t)more;
-    close(ends[0]);
+    size_t length = read_all(ends[0], out, room);
     need(waitpid(child, &ended, 0), "waitpid");
     *status = WIFEXITED(ended) ? WEXITSTATUS(ended) : -1;
     return length;
+}
+
+static inline size_t printed_by(const char *path, int input, uint8_t *out, size_t room, int *status)
+{
+    return printed_beside(path, input, 2, out, room, status);
 }
 
 #endif

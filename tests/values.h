@@ -247,16 +247,22 @@ static inline record some_record(uint32_t expiry)
     return r;
 }
 
-/* The line of a record over any two blocks, without CR LF. The answer is its length. */
-static inline size_t line_over(const record *r, uint64_t hw_id, uint64_t block_one, uint64_t block_two, uint8_t *line)
+/* What follows the permit in the line of a record, without CR LF. The answer is the line's length. */
+static inline size_t put_fields(const record *r, uint8_t *line)
 {
     char edition[12] = "", rest[120];
     if (r->edition != 0)
         snprintf(edition, sizeof edition, "%" PRIu32, r->edition);
-    model_cell_permit_of(hw_id, r->name, r->expiry, block_one, block_two, line);
     int length = snprintf(rest, sizeof rest, ",%" PRIu32 ",%s,%c%c,%s", r->level, edition, (char)(r->server >> 8), (char)r->server, r->comment);
-    memcpy(line + 64, rest, (size_t)length);
-    return 64 + (size_t)length;
+    memcpy(line + CELL_PERMIT, rest, (size_t)length);
+    return CELL_PERMIT + (size_t)length;
+}
+
+/* The line of a record over any two blocks, without CR LF. The answer is its length. */
+static inline size_t line_over(const record *r, uint64_t hw_id, uint64_t block_one, uint64_t block_two, uint8_t *line)
+{
+    model_cell_permit_of(hw_id, r->name, r->expiry, block_one, block_two, line);
+    return put_fields(r, line);
 }
 
 static inline size_t line_of(const record *r, uint64_t hw_id, uint8_t *line)
