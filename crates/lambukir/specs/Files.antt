@@ -50,5 +50,5 @@ fileLineRead s = record {
 
 -- a file that was mended: both lengths, or the refusal
 abbrev pub fileMended : Answer → FileMended
-fileMended (mending.Done size) = record { length = size .file; list_length = size .list; number = 0 }
-fileMended (mending.Refused number) = record { length = 0; list_length = 0; number = number }
+fileMended (mending.Done size) = record { length = size .file; «list_length» = size .list; number = 0 }
+fileMended (mending.Refused number) = record { length = 0; «list_length» = 0; number = number }

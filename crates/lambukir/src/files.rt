@@ -86,6 +86,23 @@ fn file_line_read(step: Step) -> FileLineRead
     }
 }
 
+fn file_mended(answer: Answer) -> FileMended
+    ensures { λ r. ⌜ r ≡ fileMended answer ⌝ }
+{
+    match answer {
+        Answer::Done(size) => FileMended {
+            length: size.file as u64,
+            list_length: size.list as u64,
+            number: 0,
+        },
+        Answer::Refused(number) => FileMended {
+            length: 0,
+            list_length: 0,
+            number,
+        },
+    }
+}
+
 #[no_mangle]
 pub extern "C" fn lambukir_open_file(file: &[u8]) -> FileOpened
     ensures { λ r. ⌜ r ≡ fileOpened (openOf (now (file .entry))) ⌝ }
@@ -119,16 +136,5 @@ pub extern "C" fn lambukir_mend(file: &[u8], out: &mut [u8], list: &mut [u8]) ->
         × ((now (out .exit) ≡ fileLent (mending (now (file .entry)) (length (now (out .entry))) (length (now (list .entry)))) (now (out .entry)))
         × (now (list .exit) ≡ listLent (mending (now (file .entry)) (length (now (out .entry))) (length (now (list .entry)))) (now (list .entry)))) ⌝ }
 {
-    match mending::mend(file, out, list) {
-        Answer::Done(size) => FileMended {
-            length: size.file as u64,
-            list_length: size.list as u64,
-            number: 0,
-        },
-        Answer::Refused(number) => FileMended {
-            length: 0,
-            list_length: 0,
-            number,
-        },
-    }
+    file_mended(mending::mend(file, out, list))
 }

@@ -11,26 +11,28 @@ fn write_start(stream: i32, out: &[u8], size: usize) {
     }
 }
 
-// Writes both where the list has 32,768 bytes or fewer, and says whether it did.
-fn write_usual(input: &[u8], out: &mut [u8]) -> bool {
-    let mut list = [0u8; 32768];
-    match mending::print(input, out, &mut list) {
+// Mends into these outputs and writes both, where they have the room, and says whether it did.
+fn write_both(input: &[u8], out: &mut [u8], list: &mut [u8]) -> bool {
+    match mending::print(input, out, list) {
         Answer::Done(size) => {
             write_start(STDOUT_FILENO, out, size.file);
-            write_start(STDERR_FILENO, &list, size.list);
+            write_start(STDERR_FILENO, list, size.list);
             true
         }
         Answer::Refused(_) => false,
     }
 }
 
-// Writes both for any input: 80,000 and 721,000 bytes are always enough (the law room-enough), and clearing them takes long.
+// A list of 32,768 bytes or fewer.
+fn write_usual(input: &[u8], out: &mut [u8]) -> bool {
+    let mut list = [0u8; 32768];
+    write_both(input, out, &mut list)
+}
+
+// Any list: 721,000 bytes are always enough, as are 80,000 for the mended file (the law room-enough), and clearing them takes long.
 fn write_any(input: &[u8], out: &mut [u8]) {
     let mut list = [0u8; 721000];
-    if let Answer::Done(size) = mending::print(input, out, &mut list) {
-        write_start(STDOUT_FILENO, out, size.file);
-        write_start(STDERR_FILENO, &list, size.list);
-    }
+    write_both(input, out, &mut list);
 }
 
 // The input has one byte more than is taken, so that one that is too long is seen to be.
