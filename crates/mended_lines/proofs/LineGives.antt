@@ -76,7 +76,11 @@ module _ (count : ℕ) (text : List ℕ) (n k : ℕ) (sizes : Measured text n k)
   pub fate-shown : (told fate : Fate) → told ≡ fateOf (take k text) → told ≡ fate → fateOf (unblanked (lineOf text)) ≡ fate
   fate-shown told fate is found = ap fateOf (sym (mended-taken text n k sizes)) ∙ sym is ∙ found
 
--- what no LF ends
+-- what no LF ends: whether it is :ECS is told of its start
+pub ecs-shown : (line : List ℕ) (k : ℕ) → k ≡ length (unblanked line) → (told test : Bool) → told ≡ isEcs (take k line) → told ≡ test
+    → isEcs (unblanked line) ≡ test
+ecs-shown line k left told test is found = ap isEcs (sym (left-taken line k left)) ∙ sym is ∙ found
+
 module _ (count : ℕ) where
   -- the list's lines where :ECS is added: nothing was there
   pub none-said : (line : List ℕ) → length line ≡ 0 → addedSaid count line ≡ numeral count ++ ascii " ECS\n"
@@ -89,14 +93,6 @@ module _ (count : ℕ) where
   unfolding addedSaid said
   some-said [] some = absurd (some refl)
   some-said (c ∷ line) some = rw add-one
-
-  module _ (line : List ℕ) (n k : ℕ) (all : n ≡ length line) (left : k ≡ length (unblanked line)) where
-    -- whether it is :ECS is told of its start
-    pub ecs-shown : (told test : Bool) → told ≡ isEcs (take k line) → told ≡ test → isEcs (unblanked line) ≡ test
-    ecs-shown told test is found = ap isEcs (sym (left-taken line n k all left)) ∙ sym is ∙ found
-
-    pub left-counted : k ≡ length (take k line)
-    left-counted = left ∙ sym (ap length (left-taken line n k all left))
 
   -- what is not :ECS
   pub added-gives : (line : List ℕ) → isEcs (unblanked line) ≡ false → unendedGives count line ≡ gives (ecs ++ lineEnd) (addedSaid count line) false
@@ -114,4 +110,4 @@ module _ (count : ℕ) where
       rw ended
       (ap (λ (l : List ℕ). gives ecs l false)
       (faults-shown (c ∷ line) n k all left false (not raised) count ecs
-      (ecs-case-shown (unblanked (c ∷ line)) (take k (c ∷ line)) (left-taken (c ∷ line) n k all left) raised told ended)))
+      (ecs-case-shown (unblanked (c ∷ line)) (take k (c ∷ line)) (left-taken (c ∷ line) k left) raised told ended)))

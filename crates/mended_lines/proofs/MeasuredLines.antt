@@ -23,14 +23,20 @@ not-equal k n most =
     (λ less. rw (less, ne-eqb k n (λ e. omega (arith, ltb-true k n less))))
     (λ no-less. rw (no-less, eq-eqb k n (omega (arith, ltb-false k n no-less))))
 
--- a line of n bytes, k of them before the blanks at its end
+-- a line of which k bytes are left without the blanks at its end
+module _ (line : List ℕ) (k : ℕ) (left : k ≡ length (unblanked line)) where
+  -- they are taken
+  pub left-taken : take k line ≡ unblanked line
+  left-taken = ap (λ (m : ℕ). take m line) left ∙ unblanked-start line
+
+  -- and as many as there are
+  pub left-counted : k ≡ length (take k line)
+  left-counted = left ∙ sym (ap length left-taken)
+
+-- of n bytes
 module _ (line : List ℕ) (n k : ℕ) (all : n ≡ length line) (left : k ≡ length (unblanked line)) where
   pub fewer-left : k ≤ n
   fewer-left = omega (arith, unblanked-short line)
-
-  -- what is left of it is taken
-  pub left-taken : take k line ≡ unblanked line
-  left-taken = ap (λ (m : ℕ). take m line) left ∙ unblanked-start line
 
   -- it has blanks at its end where fewer are left
   blank-shown : ltb k n ≡ not (sameText (unblanked line) line)
@@ -63,7 +69,7 @@ module _ (text : List ℕ) (n k : ℕ) (sizes : Measured text n k) where
   mended-taken =
       sym (take-take k n text (fewer-left (lineOf text) n k (sizes .0) (sizes .1)))
       ∙ ap (take k) (line-taken text n (sizes .0))
-      ∙ left-taken (lineOf text) n k (sizes .0) (sizes .1)
+      ∙ left-taken (lineOf text) k (sizes .1)
 
   pub mended-counted : k ≡ length (take k text)
   mended-counted = sizes .1 ∙ sym (ap length mended-taken)

@@ -1,5 +1,5 @@
 -- What a line gives, put into two outputs. For contracts inside the crate and above.
-use mathlib.Core.Bool.{Bool, false, not}
+use mathlib.Core.Bool.{Bool, false, cond, not}
 use mathlib.Core.List.{List, [], _∷_, _++_}
 use Prim.Native.Nat.{ℕ, suc, _+_}
 use lib.ListN.{length}
@@ -28,6 +28,10 @@ outAfter g at out = placed (at .file) (g .file) out
 
 abbrev pub listAfter : Gives → Places → List ℕ → List ℕ
 listAfter g at list = placed (at .list) (g .list) list
+
+-- a text with its letters raised, or as it is
+abbrev pub cased : Bool → List ℕ → List ℕ
+cased raise text = cond raise (raisedText text) text
 
 -- what :ECS gives, as its faults are found
 abbrev pub lastGives : Bool → Bool → ℕ → List ℕ → List ℕ → Gives

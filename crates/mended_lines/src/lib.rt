@@ -1,18 +1,15 @@
 // What each line of a mailed permit file gives: its part of the mended file and its part of the list, put after those before it.
 // An empty output takes nothing: then the places alone are told, and a text's length is measured without an output.
 ghost use mathlib.Core.Path.{_≡_};
-ghost use mathlib.Core.Bool.{true};
-ghost use mathlib.Core.List.{[], _++_};
+ghost use mathlib.Core.List.{_++_};
 ghost use Prim.Native.Nat.{_+_, _<_, _^_};
 ghost use lib.ListN.{length};
-ghost use Rattle.text.specs.Characters.{raisedText};
 ghost use Rattle.text.specs.Texts.{placed};
 ghost use Rattle.cell_permit.specs.CellPermit.{lineEnd};
-ghost use Rattle.mailed_lines.specs.Mailed.{lineOf, unblanked, isEcs, fateOf};
+ghost use Rattle.mailed_lines.specs.Mailed.{lineOf, unblanked, fateOf};
 ghost use Rattle.mailed_lines.specs.Putting.{Takes};
-ghost use Rattle.mailed_lines.specs.declared.Fate.the-variants.{Kept, Last};
 ghost use Rattle.mended_lines.specs.Gives.{headerGives, givesBy, unendedGives};
-ghost use Rattle.mended_lines.specs.Giving.{Room, given, outAfter, listAfter, lastGives, addedSaid};
+ghost use Rattle.mended_lines.specs.Giving.{Room, given, outAfter, listAfter, cased, lastGives, addedSaid};
 use mailed_lines::Fate;
 
 // Where the next texts are put, in the mended file and in the list.
@@ -28,24 +25,26 @@ pub struct Given {
     pub more: bool,
 }
 
-// Puts a line and its CR LF; answers the place after them.
-fn put_line(out: &mut [u8], at: usize, line: &[u8]) -> usize
-    requires { ⌜ Takes at (now line ++ lineEnd) (now out) ⌝ }
-    ensures { λ r. ⌜ (r ≡ at + length (now (line .entry) ++ lineEnd)) × (now (out .exit) ≡ placed at (now (line .entry) ++ lineEnd) (now (out .entry))) ⌝ }
+// Puts a text, with its letters raised where that is asked.
+fn put_cased(out: &mut [u8], at: usize, text: &[u8], raise: bool)
+    ensures { λ _. ⌜ now (out .exit) ≡ placed at (cased raise (now (text .entry))) (now (out .entry)) ⌝ }
 {
-    text::writing::put_text(out, at, line);
-    text::writing::put_text(out, at + line.len(), b"\r\n");
-    at + line.len() + 2
+    if raise {
+        return text::writing::put_raised(out, at, text);
+    }
+    text::writing::put_text(out, at, text)
 }
 
-// The same of a line whose letters are raised.
-fn put_raised_line(out: &mut [u8], at: usize, line: &[u8]) -> usize
-    requires { ⌜ Takes at (raisedText (now line) ++ lineEnd) (now out) ⌝ }
-    ensures { λ r. ⌜ (r ≡ at + length (raisedText (now (line .entry)) ++ lineEnd)) × (now (out .exit) ≡ placed at (raisedText (now (line .entry)) ++ lineEnd) (now (out .entry))) ⌝ }
+// Puts a line so and its CR LF; answers the place after them.
+fn put_line(out: &mut [u8], at: usize, line: &[u8], raise: bool) -> usize
+    requires { ⌜ Takes at (cased raise (now line) ++ lineEnd) (now out) ⌝ }
+    ensures { λ r. ⌜ (r ≡ at + length (cased raise (now (line .entry)) ++ lineEnd))
+        × (now (out .exit) ≡ placed at (cased raise (now (line .entry)) ++ lineEnd) (now (out .entry))) ⌝ }
 {
-    text::writing::put_raised(out, at, line);
-    text::writing::put_text(out, at + line.len(), b"\r\n");
-    at + line.len() + 2
+    let end = at + line.len();
+    put_cased(out, at, line, raise);
+    text::writing::put_text(out, end, b"\r\n");
+    end + 2
 }
 
 // One of the first three lines.
@@ -66,7 +65,7 @@ pub fn put_header_line(
     let line = &text[..k];
     let case = !mailed_lines::is_raised(line);
     Given {
-        file: put_raised_line(out, at.file, line),
+        file: put_line(out, at.file, line, true),
         list: mailed_lines::saying::put_faults(list, at.list, n == text.len(), k < n, case, count),
         more: true,
     }
@@ -89,8 +88,8 @@ fn put_last(
         × (now (list .exit) ≡ listAfter (lastGives eol blank count (now (line .entry)) (now (after .entry))) at (now (list .entry)))) ⌝ }
 {
     let case = !mailed_lines::is_raised(line);
-    let rest = put_line(out, at.file, b":ECS");
-    text::writing::put_text(out, rest, after);
+    let rest = put_line(out, at.file, b":ECS", false);
+    put_cased(out, rest, after, false);
     Given {
         file: rest + after.len(),
         list: mailed_lines::saying::put_faults(list, at.list, eol, blank, case, count),
@@ -113,27 +112,26 @@ pub fn put_ended(
         × (now (list .exit) ≡ listAfter (givesBy (fateOf (unblanked (lineOf (now (text .entry))))) count (now (text .entry)) (now (after .entry))) at (now (list .entry)))) ⌝ }
 {
     let n = mailed_lines::line_length(text);
-    let k = mailed_lines::unblanked_length(&text[..n]);
-    let line = &text[..k];
-    match mailed_lines::fate_of(line) {
+    let line = &text[..n];
+    let k = mailed_lines::unblanked_length(line);
+    let left = &text[..k];
+    let eol = n == text.len();
+    let blank = k < n;
+    match mailed_lines::fate_of(left) {
         Fate::Kept => Given {
-            file: put_line(out, at.file, line),
-            list: mailed_lines::saying::put_faults(
-                list,
-                at.list,
-                n == text.len(),
-                k < n,
-                false,
-                count,
-            ),
+            file: put_line(out, at.file, left, false),
+            list: mailed_lines::saying::put_faults(list, at.list, eol, blank, false, count),
             more: true,
         },
-        Fate::Last => put_last(line, after, n == text.len(), k < n, count, out, list, at),
-        Fate::Out => Given {
-            file: at.file,
-            list: mailed_lines::saying::put_out(list, at.list, count, &text[..n]),
-            more: true,
-        },
+        Fate::Last => put_last(left, after, eol, blank, count, out, list, at),
+        Fate::Out => {
+            let listed = mailed_lines::saying::put_out(list, at.list, count, line);
+            Given {
+                file: at.file,
+                list: listed,
+                more: true,
+            }
+        }
     }
 }
 
@@ -143,11 +141,12 @@ fn put_added(list: &mut [u8], at: usize, count: u64, line: &[u8]) -> usize
     requires { ⌜ Takes at (addedSaid count (now line)) (now list) ⌝ }
     ensures { λ r. ⌜ (r ≡ at + length (addedSaid count (now (line .entry)))) × (now (list .exit) ≡ placed at (addedSaid count (now (line .entry))) (now (list .entry))) ⌝ }
 {
+    let said: &[u8] = b" ECS\n";
     if line.len() == 0 {
-        return mailed_lines::saying::put_counted(list, at, count, b" ECS\n");
+        return mailed_lines::saying::put_counted(list, at, count, said);
     }
     let next = mailed_lines::saying::put_out(list, at, count, line);
-    mailed_lines::saying::put_counted(list, next, count + 1, b" ECS\n")
+    mailed_lines::saying::put_counted(list, next, count + 1, said)
 }
 
 // What no LF ends.
@@ -158,17 +157,18 @@ pub fn put_unended(line: &[u8], count: u64, out: &mut [u8], list: &mut [u8], at:
         × ((now (out .exit) ≡ outAfter (unendedGives count (now (line .entry))) at (now (out .entry)))
         × (now (list .exit) ≡ listAfter (unendedGives count (now (line .entry))) at (now (list .entry)))) ⌝ }
 {
+    let ecs: &[u8] = b":ECS";
     let k = mailed_lines::unblanked_length(line);
     let left = &line[..k];
     if !mailed_lines::is_ecs(left) {
         return Given {
-            file: put_line(out, at.file, b":ECS"),
+            file: put_line(out, at.file, ecs, false),
             list: put_added(list, at.list, count, line),
             more: false,
         };
     }
     let case = !mailed_lines::is_raised(left);
-    text::writing::put_text(out, at.file, b":ECS");
+    text::writing::put_text(out, at.file, ecs);
     Given {
         file: at.file + 4,
         list: mailed_lines::saying::put_faults(list, at.list, false, k < line.len(), case, count),

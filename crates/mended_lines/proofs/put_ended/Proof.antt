@@ -54,16 +54,16 @@ module _ (told : tie.After-fate-of) where
 line-length-requires : tie.Need-line-length-requires
 line-length-requires c κs = search needs
 
-slice-aggregate-unblanked-length : tie.Need-slice-aggregate-unblanked-length
-slice-aggregate-unblanked-length c =
+slice-aggregate-line : tie.Need-slice-aggregate-line
+slice-aggregate-line c =
     let measured = c .before in
     line-counted (measured .before .before .before .before .before .args .text .now) (measured .line-length .result) (measured .line-length .ensures)
 
 unblanked-length-requires : tie.Need-unblanked-length-requires
 unblanked-length-requires c κs = search needs
 
-slice-aggregate-line : tie.Need-slice-aggregate-line
-slice-aggregate-line c = mended-counted (text (c .before)) (n (c .before)) (k (c .before)) (sizes (c .before))
+slice-aggregate-left : tie.Need-slice-aggregate-left
+slice-aggregate-left c = mended-counted (text (c .before)) (n (c .before)) (k (c .before)) (sizes (c .before))
 
 fate-of-requires : tie.Need-fate-of-requires
 fate-of-requires c κs = search needs
@@ -103,17 +103,12 @@ put-last-requires c κs =
 enum-told-3 : tie.Need-enum-told-3
 enum-told-3 c = search needs
 
-slice-aggregate-put-out : tie.Need-slice-aggregate-put-out
-slice-aggregate-put-out c =
-    let m = left (c .before .before .before .before) in
-    line-counted (text m) (n m) (sizes m .0)
-
 put-out-requires : tie.Need-put-out-requires
 put-out-requires c κs =
-    let told = c .before .before .before .before in
+    let told = c .before .before .before in
     let args = start told .args in
     let m = left told in
-    same-room _ _ (same told Out (c .before .before .enum-told3 .given .1) _ (out-gives (args .count) (text m) (n m) (k m) (sizes m) (args .after .now)))
+    same-room _ _ (same told Out (c .before .enum-told3 .given .1) _ (out-gives (args .count) (text m) (n m) (k m) (sizes m) (args .after .now)))
     (args .at) (args .out .now) (args .list .now) (start told .pre) .1
 
 same-length : tie.Need-same-length
@@ -157,10 +152,10 @@ same-length-5 c = search needs
 returns-3 : tie.Need-returns-3
 returns-3 c =
     let out = c .before .before in
-    let told = out .before .before .before .before .before in
+    let told = out .before .before .before .before in
     let args = start told .args in
     let m = left told in
-    gave-both _ _ (same told Out (out .before .before .before .enum-told3 .given .1) _ (out-gives (args .count) (text m) (n m) (k m) (sizes m) (args .after .now)))
+    gave-both _ _ (same told Out (out .before .before .enum-told3 .given .1) _ (out-gives (args .count) (text m) (n m) (k m) (sizes m) (args .after .now)))
     (args .at) (args .out .now) (args .list .now)
     (args .at .file) (out .put-out .result) (args .out .now) (out .put-out .last .0)
     (put-nothing (args .at .file) (args .out .now)) (out .put-out .ensures)
@@ -170,9 +165,9 @@ put-ended-spec =
     tie.close
     (tie.spec
     line-length-requires
-    slice-aggregate-unblanked-length
-    unblanked-length-requires
     slice-aggregate-line
+    unblanked-length-requires
+    slice-aggregate-left
     fate-of-requires
     enum-told
     put-line-requires
@@ -180,7 +175,6 @@ put-ended-spec =
     enum-told-2
     put-last-requires
     enum-told-3
-    slice-aggregate-put-out
     put-out-requires
     same-length
     same-length-2

@@ -25,8 +25,8 @@ put-line-requires c κs =
     let args = start .args in
     takes-first (args .at .file) (ecs ++ lineEnd) (args .after .now) (args .out .now) (start .pre .0)
 
-put-text-requires : tie.Need-put-text-requires
-put-text-requires c κs = search needs
+put-cased-requires : tie.Need-put-cased-requires
+put-cased-requires c κs = search needs
 
 add-t21 : tie.Need-add-t21
 add-t21 c = search needs
@@ -55,10 +55,10 @@ returns c =
     let args = start .args in
     gave-both _ _ (told-gives (args .eol) (args .blank) (args .count) (args .line .now) (args .after .now) (told .is-raised .result) (told .is-raised .ensures))
     (args .at) (args .out .now) (args .list .now)
-    (line .put-line .result + length (args .after .now)) (said .put-faults .result) (rest .put-text .last .0) (said .put-faults .last .0)
+    (line .put-line .result + length (args .after .now)) (said .put-faults .result) (rest .put-cased .last .0) (said .put-faults .last .0)
     (put-both (args .at .file) (ecs ++ lineEnd) (args .after .now) (args .out .now) (start .pre .0)
-    (line .put-line .result) (line .put-line .result + length (args .after .now)) (line .put-line .last .0) (rest .put-text .last .0)
-    (line .put-line .ensures) (refl, rest .put-text .ensures))
+    (line .put-line .result) (line .put-line .result + length (args .after .now)) (line .put-line .last .0) (rest .put-cased .last .0)
+    (line .put-line .ensures) (refl, rest .put-cased .ensures))
     (said .put-faults .ensures)
 
 pub put-last-spec : {M : Type 1} → statement M
@@ -68,7 +68,7 @@ put-last-spec =
     is-raised-requires
     slice-aggregate-put-line
     put-line-requires
-    put-text-requires
+    put-cased-requires
     add-t21
     put-faults-requires
     same-length
