@@ -1,0 +1,3 @@
+pub mod Faults
+pub mod Clean
+pub mod Shapes
