@@ -13,14 +13,14 @@ use lib.Seq.{drop-cons}
 use Rattle.bytes.specs.Numbers.{Below, bytesOf}
 use Rattle.bytes.specs.Places.{numberAt}
 use Rattle.bytes.specs.Every.{allOf}
-use Rattle.bytes.specs.declared.numbers.Reading.the-variants as reading
 use Rattle.bytes.proofs.Every.{either}
 use Rattle.bytes.proofs.Places.{bytes-at}
-use Rattle.text.specs.Characters.{between, isDigit, isHex, isNameCharacter, isPrintable}
+use Rattle.text.specs.Characters.{between, isDigit, isHex, isNameCharacter, isPrintable, decimalNumber}
 use Rattle.text.specs.Texts.{part, allAt}
 use Rattle.text.proofs.TextsAt.{all-inside, all-append, part-join}
-use Rattle.forms.specs.DateText.{isDateAt, dateAt}
-use Rattle.forms.proofs.DateTexts.{date-wrong, date-right}
+use Rattle.dates.specs.Calendar.{isDate}
+use Rattle.forms.specs.DateText.{isDateAt}
+use Rattle.forms.proofs.DateTexts.{digits-at}
 use Rattle.cell_permit.specs.Line.{isPermit, commaAt, editionLength, isTail, isLine}
 use Rattle.cell_permit.specs.LineParts.{isLevelPart, isServerPart}
 use Rattle.cell_permit.proofs.Editions.{blank, one, two, three}
@@ -89,15 +89,32 @@ module _ (line : List ℕ) where
     unfolding isPermit
     no-name bad = rw (sym told ∙ bad)
 
-    pub no-expiry : named ≡ true → dateAt line 8 ≡ reading.Wrong → false ≡ isPermit line
-    unfolding isPermit
-    no-expiry good wrong = let bad : isDateAt line 8 ≡ false = date-wrong line 8 wrong in rw (sym told ∙ good, bad)
+    -- the expiry as a word
+    module _ (good : named ≡ true) (y : ℕ) (date : y ≡ numberAt 8 line 8) where
+      abbrev digital : Bool
+      digital = allOf isDigit (bytesOf 8 y)
 
-    pub by-cipher : named ≡ true → (y : ℕ) → dateAt line 8 ≡ reading.Number y → allOf isHex (part 48 line 16) ≡ isPermit line
-    unfolding isPermit
-    by-cipher good y made =
-        let dated : isDateAt line 8 ≡ true = date-right line 8 y made in
-        rw (sym told ∙ good, dated) (cipher-parts long)
+      digital-told : digital ≡ allAt isDigit 8 line 8
+      digital-told = ap (λ (w : ℕ). allOf isDigit (bytesOf 8 w)) date ∙ digits-at line 8 below
+
+      pub no-digits : digital ≡ false → false ≡ isPermit line
+      unfolding isPermit isDateAt
+      no-digits bad = rw (sym told ∙ good, sym digital-told ∙ bad)
+
+      module _ (all : digital ≡ true) (dated : Bool) (is : dated ≡ isDate (decimalNumber (bytesOf 8 y))) where
+        date-told : dated ≡ isDateAt line 8
+        unfolding isDateAt
+        date-told =
+            rw (sym digital-told ∙ all)
+            (is ∙ ap (λ (l : List ℕ). isDate (decimalNumber l)) (ap (bytesOf 8) date ∙ bytes-at 8 line 8 below (omega arith)))
+
+        pub no-date : dated ≡ false → false ≡ isPermit line
+        unfolding isPermit
+        no-date bad = rw (sym told ∙ good, sym date-told ∙ bad)
+
+        pub by-cipher : dated ≡ true → allOf isHex (part 48 line 16) ≡ isPermit line
+        unfolding isPermit
+        by-cipher right = rw (sym told ∙ good, sym date-told ∙ right) (cipher-parts long)
 
   -- the service level
   pub no-comma1 : (getD line 64 0 ≡ 44 → ⊥) → false ≡ isLevelPart line

@@ -1,16 +1,21 @@
 // Whether a text has the shape of a permit line. A test of a character leaves its answer in a top bit, so that those of many are taken together, and no branch is made for each of them.
 ghost use mathlib.Core.Path.{_≡_};
-ghost use mathlib.Core.Bool.{cond};
+ghost use mathlib.Core.Bool.{true, cond};
 ghost use Prim.Native.Nat.{_-_, _≤_};
 ghost use lib.Dec.{ltb};
 ghost use lib.ListN.{length};
+ghost use Rattle.bytes.specs.Numbers.{bytesOf};
 ghost use Rattle.bytes.specs.Every.{allOf};
-ghost use Rattle.text.specs.Characters.{between, isDigit, isHex, isNameCharacter, isPrintable};
+ghost use Rattle.text.specs.Characters.{between, isDigit, isHex, isNameCharacter, isPrintable, decimalNumber};
 ghost use Rattle.text.specs.Texts.{part};
+ghost use Rattle.dates.specs.Calendar.{isDate};
 ghost use Rattle.cell_permit.specs.Line.{isPermit, editionLength, isLine};
 ghost use Rattle.cell_permit.specs.LineParts.{isLevelPart, isServerPart};
-use bytes::numbers::Reading;
+ghost use Rattle.line_shape.specs.Pairs.{isEarly};
 use std::num::wrapping_sub_u8;
+
+// '0' eight times.
+const ZEROS: u64 = 0x3030_3030_3030_3030;
 
 // A byte whose top bit is set where c is none of the characters from low to high.
 fn outside(low: u8, high: u8, c: u8) -> u8
@@ -70,6 +75,46 @@ fn is_comment(line: &[u8], at: usize) -> bool
     faults < 128
 }
 
+// Whether these are a century from 19 to 29, a month, and a day that every month has; of the pairs of digits of a date.
+fn is_early(pairs: u64) -> bool
+    ensures { λ r. ⌜ r ≡ isEarly pairs ⌝ }
+{
+    let century = pairs / 0x1_0000_0000_0000 % 256;
+    if century < 19 {
+        return false;
+    }
+    if 29 < century {
+        return false;
+    }
+    let month = pairs / 0x1_0000 % 256;
+    if month < 1 {
+        return false;
+    }
+    if 12 < month {
+        return false;
+    }
+    let day = pairs % 256;
+    if day < 1 {
+        return false;
+    }
+    day <= 28
+}
+
+// Whether eight digits, which are the bytes of x, are a date. Ten times each digit and the next one fit in a byte: so every second byte has the number of two.
+fn is_date_of(x: u64) -> bool
+    requires { ⌜ allOf isDigit (bytesOf 8 x) ≡ true ⌝ }
+    ensures { λ r. ⌜ r ≡ isDate (decimalNumber (bytesOf 8 x)) ⌝ }
+{
+    let digits = x - ZEROS;
+    let pairs = digits / 256 * 10 + digits;
+    if is_early(pairs) {
+        return true;
+    }
+    let year = pairs / 0x1_0000_0000_0000 % 256 * 100 + pairs / 0x1_0000_0000 % 256;
+    let date = year * 10000 + pairs / 0x1_0000 % 256 * 100 + pairs % 256;
+    dates::is_date(date as u32)
+}
+
 // The first 64 bytes.
 fn is_permit(line: &[u8]) -> bool
     requires { ⌜ 71 ≤ length (now line) ⌝ }
@@ -78,9 +123,13 @@ fn is_permit(line: &[u8]) -> bool
     if !text::names::are_name_characters(bytes::numbers::number64(line, 0)) {
         return false;
     }
-    let Reading::Number(_) = forms::date_text::date_at(line, 8) else {
+    let expiry = bytes::numbers::number64(line, 8);
+    if !text::names::are_digits(expiry) {
         return false;
-    };
+    }
+    if !is_date_of(expiry) {
+        return false;
+    }
     is_cipher_part(line)
 }
 

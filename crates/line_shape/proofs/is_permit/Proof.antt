@@ -1,6 +1,6 @@
 -- `line_shape::is_permit` meets its contract. Each part that is wrong makes the permit wrong.
 -- Assumes nothing.
-use mathlib.Core.Path.{_≡_, sym, ap, _∙_}
+use mathlib.Core.Path.{_≡_, sym, _∙_}
 use mathlib.Core.Bool.{true}
 use mathlib.Core.List.{List}
 use Prim.Native.Nat.{ℕ, _≤_}
@@ -10,8 +10,8 @@ use borrow.Author.Needs.{needs}
 use lib.ListN.{length}
 use Rattle.bytes.specs.Numbers.{Below, bytesOf}
 use Rattle.bytes.specs.Every.{allOf}
-use Rattle.text.specs.Characters.{isNameCharacter}
-use Rattle.line_shape.proofs.Shapes.{no-name, no-expiry, by-cipher}
+use Rattle.text.specs.Characters.{isDigit, isNameCharacter}
+use Rattle.line_shape.proofs.Shapes.{no-name, no-digits, no-date, by-cipher}
 use Rattle.line_shape.proofs.is_permit.Statement.{statement}
 use Rattle.line_shape.proofs.is_permit.Tie as tie
 
@@ -41,32 +41,44 @@ returns c =
 named : (c : tie.Else1) → allOf isNameCharacter (bytesOf 8 (c .before .before .number64 .result)) ≡ true
 named c = sym (c .before .are-name-characters .ensures) ∙ not-false _ (c .if1 .left)
 
-date-at-requires : tie.Need-date-at-requires
-date-at-requires c κs = search needs
+number64-requires-2 : tie.Need-number64-requires-2
+number64-requires-2 c κs = search needs
 
-enum-told : tie.Need-enum-told
-enum-told c = search needs
-
-enum-told-2 : tie.Need-enum-told-2
-enum-told-2 c = search needs
+are-digits-requires : tie.Need-are-digits-requires
+are-digits-requires c κs = search needs
 
 returns-2 : tie.Need-returns-2
 returns-2 c =
-    let date = c .before .before in
-    let test = date .before .before in
-    no-expiry (line test) (below test) (long test) (test .before .number64 .result) (test .before .number64 .ensures) (named (date .before))
-    (sym (date .date-at .ensures) ∙ c .enum-told2 .given .1)
+    let date = c .before in
+    let test = date .before .before .before in
+    no-digits (line test) (below test) (long test) (test .before .number64 .result) (test .before .number64 .ensures) (named (date .before .before))
+    (date .before .number642 .result) (date .before .number642 .ensures) (sym (date .are-digits .ensures) ∙ not-true _ (c .if2 .taken))
+
+digital : (c : tie.Else2) → allOf isDigit (bytesOf 8 (c .before .before .number642 .result)) ≡ true
+digital c = sym (c .before .are-digits .ensures) ∙ not-false _ (c .if2 .left)
+
+is-date-of-requires : tie.Need-is-date-of-requires
+is-date-of-requires c κs = digital c
+
+returns-3 : tie.Need-returns-3
+returns-3 c =
+    let told = c .before in
+    let date = told .before .before in
+    let test = date .before .before .before in
+    no-date (line test) (below test) (long test) (test .before .number64 .result) (test .before .number64 .ensures) (named (date .before .before))
+    (date .before .number642 .result) (date .before .number642 .ensures) (digital (told .before)) _ (told .is-date-of .ensures) (not-true _ (c .if3 .taken))
 
 is-cipher-part-requires : tie.Need-is-cipher-part-requires
 is-cipher-part-requires c κs = search needs
 
-returns-3 : tie.Need-returns-3
-returns-3 c =
-    let date = c .before .before .before in
-    let test = date .before .before in
+returns-4 : tie.Need-returns-4
+returns-4 c =
+    let told = c .before .before in
+    let date = told .before .before in
+    let test = date .before .before .before in
     c .is-cipher-part .ensures
-    ∙ by-cipher (line test) (below test) (long test) (test .before .number64 .result) (test .before .number64 .ensures) (named (date .before))
-    _ (sym (date .date-at .ensures) ∙ c .before .enum-told .given .1)
+    ∙ by-cipher (line test) (below test) (long test) (test .before .number64 .result) (test .before .number64 .ensures) (named (date .before .before))
+    (date .before .number642 .result) (date .before .number642 .ensures) (digital (told .before)) _ (told .is-date-of .ensures) (not-false _ (c .before .if3 .left))
 
 pub is-permit-spec : {M : Type 1} → statement M
 is-permit-spec =
@@ -75,9 +87,10 @@ is-permit-spec =
     number64-requires
     are-name-characters-requires
     returns
-    date-at-requires
-    enum-told
-    enum-told-2
+    number64-requires-2
+    are-digits-requires
     returns-2
+    is-date-of-requires
+    returns-3
     is-cipher-part-requires
-    returns-3)
+    returns-4)
