@@ -1,0 +1,4 @@
+pub mod Faults
+pub mod Clean
+pub mod Dates
+pub mod Shapes
