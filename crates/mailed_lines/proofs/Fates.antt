@@ -12,8 +12,7 @@ use Rattle.text.specs.Characters.{raised, raisedText, isHex}
 use Rattle.text.specs.Texts.{sameText, standsAt}
 use Rattle.text.proofs.SameTexts.{same-true}
 use Rattle.text.proofs.TextsAt.{all-within}
-use Rattle.cell_permit.specs.Line.{isLine, commentPlace, commentAt}
-use Rattle.cell_permit.specs.declared.CommentPlace.the-variants.{At, None}
+use Rattle.cell_permit.specs.Line.{isLine}
 use Rattle.cell_permit.proofs.GoodLine.{good-line}
 use Rattle.file_lines.specs.Lines.{ecs}
 use Rattle.mailed_lines.specs.Mailed.{isEcs, fateOf}
@@ -35,14 +34,6 @@ out-made true b made = (cc, cc)
 out-made false true made = (refl, cc)
 out-made false false made = (refl, refl)
 
-at-made : (t : Bool) (n m : ℕ) → cond t (At n) None ≡ At m → t ≡ true
-at-made true n m made = refl
-at-made false n m made = cc
-
-none-made : (t : Bool) (n : ℕ) → cond t (At n) None ≡ None → t ≡ false
-none-made true n made = cc
-none-made false n made = refl
-
 module _ (line : List ℕ) where
   -- :ECS, raised, is :ECS in capitals
   pub ecs-raised : isEcs line ≡ true → raisedText line ≡ ecs
@@ -63,16 +54,6 @@ module _ (line : List ℕ) where
   ecs-stands after four is =
       let all : length after ≤ 4 = omega (arith, ap length is ∙ length-map line raised) in
       ap (λ (l : List ℕ). sameText l ecs) (take-all 4 after all ∙ is)
-
-  -- where a comment begins the line has its shape
-  pub comment-shape : (at : ℕ) → commentAt line ≡ At at → isLine line ≡ true
-  unfolding commentAt
-  comment-shape at made = at-made (isLine line) (commentPlace line) at made
-
-  -- and where none does it has not
-  pub no-comment-shape : commentAt line ≡ None → isLine line ≡ false
-  unfolding commentAt
-  no-comment-shape made = none-made (isLine line) (commentPlace line) made
 
   -- a line that is kept has a line's shape and is not :ECS
   pub kept-is : fateOf line ≡ Kept → (isLine line ≡ true) × (isEcs line ≡ false)

@@ -4,7 +4,6 @@ ghost use lib.ListN.{length};
 ghost use Rattle.text.specs.Characters.{raisedText};
 ghost use Rattle.text.specs.Texts.{sameText};
 ghost use Rattle.mailed_lines.specs.Mailed.{lineOf, unblanked, isEcs, fateOf};
-use cell_permit::CommentPlace;
 
 pub mod saying; // saying.rt: the list's lines
 pub mod texts; // texts.rt: where a text ends
@@ -67,15 +66,16 @@ pub fn is_ecs(line: &[u8]) -> bool
     text::reading::stands_at(b":ECS", &raised, 0)
 }
 
-// What becomes of a line whose blanks are gone: it has a line's shape exactly where its comment begins somewhere.
+// What becomes of a line whose blanks are gone.
 pub fn fate_of(line: &[u8]) -> Fate
     ensures { λ r. ⌜ r ≡ fateOf (now (line .entry)) ⌝ }
 {
     if is_ecs(line) {
         return Fate::Last;
     }
-    match cell_permit::comment_place(line) {
-        CommentPlace::At(_) => Fate::Kept,
-        CommentPlace::None => Fate::Out,
+    if line_shape::is_line(line) {
+        Fate::Kept
+    } else {
+        Fate::Out
     }
 }

@@ -6,5 +6,5 @@ pub mod HeaderTexts
 pub mod HeaderPuts
 pub mod TextGives
 pub mod Walks
-pub mod Mends
 pub mod Rooms
+pub mod Mends

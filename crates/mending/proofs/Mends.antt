@@ -18,20 +18,18 @@ use Rattle.mended_lines.specs.declared.Places.{Places}
 use Rattle.mending.specs.Mending.{Mended, mendedOf, isMended, Outcome, done, refused, mending}
 use Rattle.mending.specs.Answers.{answerOf, fileLent, listLent}
 use Rattle.mending.specs.Program.{only, printed, printing, refusalPrinted}
-use Rattle.mending.specs.Walking.{headerEnds, headerOf, sizeOf, laterOf, fits, answered, sizeAfter, Walkable}
+use Rattle.mending.specs.Walking.{headerEnds, headerOf, sizeOf, laterOf, fits, answered, sizeAfter, sizesOf, SurelyFits, Walkable}
 use Rattle.mending.specs.declared.Answer.{Answer}
 use Rattle.mending.specs.declared.Answer.the-variants as answer
 use Rattle.mending.specs.declared.Lengths.{Lengths}
 use Rattle.mending.specs.declared.header.Ends.{Ends}
 use Rattle.mending.specs.declared.header.Header.the-variants.{Three}
 use Rattle.mending.proofs.HeaderTexts.{ends-rise, header-and-later, good-place}
+use Rattle.mending.proofs.Rooms.{file-room, list-room}
 
--- the room of two outputs, and the size of two texts
+-- the room of two outputs
 abbrev pub roomOf : List ℕ → List ℕ → Lengths
 roomOf out list = record { file = length out; list = length list }
-
-abbrev pub sizesOf : Mended → Lengths
-sizesOf m = record { file = length (m .file); list = length (m .list) }
 
 -- the test by which a walk answers
 refused-made : (t : Bool) (size : Lengths) (n : ℕ) → cond t (answer.Done size) (answer.Refused 108) ≡ answer.Refused n → (t ≡ false) × (n ≡ 108)
@@ -62,6 +60,9 @@ Mends file out list a out₁ list₁ =
     (a ≡ answerOf (mending file (length out) (length list)))
     × ((out₁ ≡ fileLent (mending file (length out) (length list)) out) × (list₁ ≡ listLent (mending file (length out) (length list)) list))
 
+pub mends-108 : (file out list : List ℕ) → isMended file ≡ true → fits (sizesOf (mendedOf file)) (roomOf out list) ≡ false → Mends file out list (answer.Refused 108) out list
+mends-108 file out list good long = rw (comes-108 file out list good long) (refl, (refl, refl))
+
 pub mends-12 : (file out list : List ℕ) → isMended file ≡ false → Mends file out list (answer.Refused 12) out list
 mends-12 file out list bad = rw (comes-12 file out list bad) (refl, (refl, refl))
 
@@ -91,44 +92,43 @@ module _ (file : List ℕ) (e : Ends) (made : headerEnds file ≡ Three e) (good
   unfolding sizeAfter sizeOf
   sizes-whole = rw (file-size, list-size)
 
-  -- outputs, none of which has 2 ^ 63 bytes
-  module _ (out list : List ℕ) (short : length file < 2 ^ 63) (out-short : length out < 2 ^ 63) (list-short : length list < 2 ^ 63) where
-    -- it may be measured
-    pub may-measure : Walkable file (e .third + 1) (sizeOf header) (roomOf out list) [] []
-    may-measure =
+  -- room of less than 2 ^ 63 bytes: it may be measured
+  module _ (room : Lengths) (short : length file < 2 ^ 63) (file-room-short : room .file < 2 ^ 63) (list-room-short : room .list < 2 ^ 63) where
+    pub may-measure : (at : Places) → at ≡ sizeOf header → Walkable file (e .third + 1) at room [] []
+    may-measure at sized =
         record {
           within = ends-rise file e made .1 .1;
           behind = good-place file e made good;
           short = short;
-          file-room = out-short;
-          list-room = list-short;
+          file-room = file-room-short;
+          list-room = list-room-short;
           outputs = inl (refl, refl);
         }
 
-    -- what the measure says
-    pub measured-108 : (n : ℕ) → answered (roomOf out list) (sizeAfter (sizeOf header) later) ≡ answer.Refused n
-        → (n ≡ 108) × (mending file (length out) (length list) ≡ refused 108)
+  -- what the measure says
+  module _ (room : Lengths) (at : Places) (sized : at ≡ sizeOf header) (a : Answer) (is : a ≡ answered room (sizeAfter at later)) where
+    all-measured : a ≡ answered room (sizesOf whole)
+    all-measured = is ∙ ap (λ (p : Places). answered room (sizeAfter p later)) sized ∙ ap (answered room) sizes-whole
+
+    pub measured-fits : (size : Lengths) → a ≡ answer.Done size → true ≡ fits (sizesOf whole) room
     unfolding answered
-    measured-108 n says =
-        let no = refused-made (fits (sizeAfter (sizeOf header) later) (roomOf out list)) (sizeAfter (sizeOf header) later) n says in
-        (no .1, comes-108 file out list good (sym (ap (λ (s : Lengths). fits s (roomOf out list)) sizes-whole) ∙ no .0))
+    measured-fits size told = sym (done-made (fits (sizesOf whole) room) (sizesOf whole) size (sym all-measured ∙ told))
 
-    -- so nothing is written
-    pub mends-108 : (at : Places) → at ≡ sizeOf header → (a : Answer) → a ≡ answered (roomOf out list) (sizeAfter at later) → (n : ℕ) → a ≡ answer.Refused n
-        → Mends file out list (answer.Refused n) out list
-    mends-108 at sized a is n refusal =
-        let said = measured-108 n (sym (is ∙ ap (λ (p : Places). answered (roomOf out list) (sizeAfter p later)) sized) ∙ refusal) in
-        rw (said .0, said .1) (refl, (refl, refl))
-
-    -- where it is no refusal, both fit
-    pub measured-fits : (at : Places) → at ≡ sizeOf header → (a : Answer) → a ≡ answered (roomOf out list) (sizeAfter at later) → (size : Lengths) → a ≡ answer.Done size
-        → fits (sizesOf whole) (roomOf out list) ≡ true
+    pub measured-long : (n : ℕ) → a ≡ answer.Refused n → false ≡ fits (sizesOf whole) room
     unfolding answered
-    measured-fits at sized a is size told =
-        let all : a ≡ answered (roomOf out list) (sizesOf whole) =
-        is ∙ ap (λ (p : Places). answered (roomOf out list) (sizeAfter p later)) sized ∙ ap (answered (roomOf out list)) sizes-whole in
-        done-made (fits (sizesOf whole) (roomOf out list)) (sizesOf whole) size (sym all ∙ told)
+    measured-long n told = sym (refused-made (fits (sizesOf whole) room) (sizesOf whole) n (sym all-measured ∙ told) .0)
 
+  -- every file of its size fits
+  pub sure-fits : (room : Lengths) → SurelyFits (length file) room → true ≡ fits (sizesOf whole) room
+  unfolding fits
+  sure-fits room sure =
+      rw (
+        le-leb (length (whole .file)) (room .file) (omega (arith, sure, file-room file good)),
+        le-leb (length (whole .list)) (room .list) (omega (arith, sure, list-room file good (sure .0))),
+      )
+
+  -- outputs, none of which has 2 ^ 63 bytes
+  module _ (out list : List ℕ) (short : length file < 2 ^ 63) (out-short : length out < 2 ^ 63) (list-short : length list < 2 ^ 63) where
     module _ (fit : fits (sizesOf whole) (roomOf out list) ≡ true) where
       file-fits : length (whole .file) ≤ length out
       unfolding fits

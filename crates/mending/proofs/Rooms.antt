@@ -3,7 +3,7 @@
 use mathlib.Core.Path.{_≡_, refl, sym, ap, _∙_}
 use mathlib.Core.Bool.{Bool, true, false, not}
 use mathlib.Core.List.{List, [], _∷_, _++_}
-use Prim.Native.Nat.{ℕ, suc, _+_, _-_, _*_, _^_, _≤_, _<_}
+use Prim.Native.Nat.{ℕ, suc, _+_, _-_, _*_, _/_, _^_, _≤_, _<_}
 use native.Mathlib.Omega.{arith}
 use borrow.Author.Tests.{leb-true}
 use lib.Dec.{leb}
@@ -15,6 +15,7 @@ use Rattle.text.specs.Texts.{width, sameText}
 use Rattle.text.proofs.Numerals.{width-at-most}
 use Rattle.cell_permit.specs.CellPermit.{lineEnd}
 use Rattle.file_lines.specs.Lines.{ecs}
+use Rattle.line_shape.proofs.Shapes.{shortest-line}
 use Rattle.mailed_lines.specs.Texts.{textsOf, joined}
 use Rattle.mailed_lines.specs.Mailed.{endsInCr, lineOf, unblanked, isEcs, fateOf}
 use Rattle.mailed_lines.specs.Saying.{said, outSaid}
@@ -46,11 +47,11 @@ module _ (count : ℕ) (text next : List ℕ) (rest : List (List ℕ)) where
   line-least : length line ≤ length text
   line-least = omega (arith, unblanked-short (lineOf text), line-short text)
 
-  -- a mended file: a line that is kept has 64 bytes at least, and gains one
+  -- a mended file: a line that is kept has 71 bytes at least, and gains one
   file-by
-      : 5 * length (mendedFrom (suc count) (next ∷ rest) .file) ≤ 6 * length (joined (next ∷ rest)) + 30
+      : 72 * length (mendedFrom (suc count) (next ∷ rest) .file) ≤ 73 * length (joined (next ∷ rest)) + 432
       → (f : Fate) → fateOf line ≡ f
-      → 5 * length (mendedFrom count (text ∷ next ∷ rest) .file) ≤ 6 * length (joined (text ∷ next ∷ rest)) + 30
+      → 72 * length (mendedFrom count (text ∷ next ∷ rest) .file) ≤ 73 * length (joined (text ∷ next ∷ rest)) + 432
   unfolding mendedFrom givesOf
   file-by later Kept kept =
       rw kept
@@ -61,7 +62,7 @@ module _ (count : ℕ) (text next : List ℕ) (rest : List (List ℕ)) where
         length-append (line ++ lineEnd) (mendedFrom (suc count) (next ∷ rest) .file),
         length-append line lineEnd,
         line-least,
-        line-long line (kept-is line kept .0),
+        shortest-line line (kept-is line kept .0),
       ))
   file-by later Last last = rw last (omega (arith, joined-length text next rest, length-append (ecs ++ lineEnd) (joined (next ∷ rest))))
   file-by later Out out = rw out (omega (arith, later, joined-length text next rest))
@@ -107,7 +108,7 @@ module _ (count : ℕ) (text next : List ℕ) (rest : List (List ℕ)) where
           line-short text,
         ))
 
-texts-file : (count : ℕ) (text : List ℕ) (rest : List (List ℕ)) → 5 * length (mendedFrom count (text ∷ rest) .file) ≤ 6 * length (joined (text ∷ rest)) + 30
+texts-file : (count : ℕ) (text : List ℕ) (rest : List (List ℕ)) → 72 * length (mendedFrom count (text ∷ rest) .file) ≤ 73 * length (joined (text ∷ rest)) + 432
 unfolding mendedFrom givesOf unendedGives
 texts-file count [] [] = omega arith
 texts-file count (c ∷ line) [] = either (isEcs (unblanked (c ∷ line))) (λ is. rw is (omega arith)) (λ other. rw other (omega arith))
@@ -150,15 +151,15 @@ module _ (file : List ℕ) (place : ℕ) (within : place ≤ length file) where
   left-length : length (joined (textsOf (drop place file))) ≡ length file - place
   left-length = ap length (joined-texts (drop place file)) ∙ length-drop place file
 
-  later-file : 5 * length (laterOf file place .file) ≤ 6 * (length file - place) + 30
+  later-file : 72 * length (laterOf file place .file) ≤ 73 * (length file - place) + 432
   unfolding laterOf
   later-file =
       let all = texts-file 4 (firstOf (textsOf (drop place file))) (restOf (textsOf (drop place file))) in
       rw (← never-empty (drop place file), left-length) at all
 
-  later-list : length file ≤ 65536 → length (laterOf file place .list) ≤ 11 * (length file - place) + 11
+  later-list : 37 ≤ place → length file ≤ 100000 → length (laterOf file place .list) ≤ 11 * (length file - place) + 11
   unfolding laterOf
-  later-list small =
+  later-list behind small =
       let cut = never-empty (drop place file) in
       let few : 4 + length (joined (firstOf (textsOf (drop place file)) ∷ restOf (textsOf (drop place file)))) < 99999 =
       omega (arith, ap (λ (l : List (List ℕ)). length (joined l)) (sym cut) ∙ left-length) in
@@ -166,7 +167,7 @@ module _ (file : List ℕ) (place : ℕ) (within : place ≤ length file) where
       rw (← cut, left-length) at all
 
 module _ (file : List ℕ) (good : isMended file ≡ true) where
-  file-by-header : (h : Header) → headerEnds file ≡ h → 5 * length (mendedOf file .file) ≤ 6 * length file + 8
+  file-by-header : (h : Header) → headerEnds file ≡ h → length (mendedOf file .file) ≤ length file + length file / 72 + 9
   file-by-header (Three e) made =
       omega (
         arith,
@@ -178,7 +179,7 @@ module _ (file : List ℕ) (good : isMended file ≡ true) where
       )
   file-by-header Fewer made = absurd (never-both (isMended file) (fewer file made) good)
 
-  list-by-header : length file ≤ 65536 → (h : Header) → headerEnds file ≡ h → length (mendedOf file .list) ≤ 11 * length file
+  list-by-header : length file ≤ 100000 → (h : Header) → headerEnds file ≡ h → length (mendedOf file .list) ≤ 11 * length file
   list-by-header small (Three e) made =
       omega (
         arith,
@@ -186,7 +187,7 @@ module _ (file : List ℕ) (good : isMended file ≡ true) where
         header-list file e,
         good-place file e made good,
         ends-rise file e made,
-        later-list file (e .third + 1) (ends-rise file e made .1 .1) small,
+        later-list file (e .third + 1) (ends-rise file e made .1 .1) (good-place file e made good) small,
       )
   list-by-header small Fewer made = absurd (never-both (isMended file) (fewer file made) good)
 
@@ -204,6 +205,6 @@ room-enough input =
     either (isMended input)
     (λ good.
     let small = leb-true (length input) 65536 short in
-    rw (short, good) (omega (arith, small, file-room input good), omega (arith, small, list-room input good small)))
+    rw (short, good) (omega (arith, small, file-room input good), omega (arith, small, list-room input good (omega arith))))
     (λ bad. rw (short, bad) (omega arith, omega arith)))
     (λ long. rw long (omega arith, omega arith))

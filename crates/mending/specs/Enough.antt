@@ -2,18 +2,18 @@
 use mathlib.Core.Path.{_≡_}
 use mathlib.Core.Bool.{true}
 use mathlib.Core.List.{List}
-use Prim.Native.Nat.{ℕ, _+_, _*_, _≤_}
+use Prim.Native.Nat.{ℕ, _+_, _*_, _/_, _≤_}
 use lib.ListN.{length}
 use Rattle.mending.specs.Mending.{mendedOf, isMended}
 use Rattle.mending.specs.Program.{printed}
 
--- a mended file has at most a fifth more bytes than the old one, and one
+-- a mended file is hardly longer than the old one: a kept line has 72 bytes at least, with its LF, and gains one
 abbrev pub FileRoom : Type 0
-FileRoom = (file : List ℕ) → isMended file ≡ true → 5 * length (mendedOf file .file) ≤ 6 * length file + 8
+FileRoom = (file : List ℕ) → isMended file ≡ true → length (mendedOf file .file) ≤ length file + length file / 72 + 9
 
--- the list of a file that the program takes has at most eleven bytes for each of the file's
+-- the list of a file of 100,000 bytes or fewer has at most eleven bytes for each of the file's: an empty line is counted in five digits and left out
 abbrev pub ListRoom : Type 0
-ListRoom = (file : List ℕ) → isMended file ≡ true → length file ≤ 65536 → length (mendedOf file .list) ≤ 11 * length file
+ListRoom = (file : List ℕ) → isMended file ≡ true → length file ≤ 100000 → length (mendedOf file .list) ≤ 11 * length file
 
 -- 80,000 bytes are room enough for what is printed of any input, and 721,000 for its list
 abbrev pub RoomEnough : Type 0

@@ -3,7 +3,7 @@ use mathlib.Core.Bool.{Bool, true, false, cond, _&&_}
 use mathlib.Core.Path.{_≡_}
 use mathlib.Core.List.{List, [], _∷_, _++_}
 use mathlib.Core.Logic.{_⊎_}
-use Prim.Native.Nat.{ℕ, _+_, _-_, _^_, _≤_, _<_}
+use Prim.Native.Nat.{ℕ, _+_, _-_, _*_, _/_, _^_, _≤_, _<_}
 use lib.Dec.{leb, ltb}
 use lib.ListN.{length, take, drop}
 use Rattle.mailed_lines.specs.Texts.{textsOf, textEnds}
@@ -103,6 +103,14 @@ answered room size = cond (fits size room) (answer.Done size) (answer.Refused 10
 -- how long both are, put after these places
 unfoldable pub sizeAfter : Places → Mended → Lengths
 sizeAfter at m = record { file = at .file + length (m .file); list = at .list + length (m .list) }
+
+-- how long both are, mended
+abbrev pub sizesOf : Mended → Lengths
+sizesOf m = record { file = length (m .file); list = length (m .list) }
+
+-- every file of so many bytes fits, whatever is in it
+abbrev pub SurelyFits : ℕ → Lengths → Type 0
+SurelyFits size room = (size ≤ 100000) × ((11 * size ≤ room .list) × (size + size / 72 + 9 ≤ room .file))
 
 -- a walk may begin: behind a header, with small places and rooms, and into outputs that take all of it or are empty
 pub record Walkable (file : List ℕ) (place : ℕ) (at : Places) (room : Lengths) (out list : List ℕ) : Type 0 where

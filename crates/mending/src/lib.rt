@@ -1,10 +1,12 @@
 // A mailed permit file mended: the whole file, and the whole list of what was wrong with it.
 ghost use mathlib.Core.Path.{_≡_};
+ghost use mathlib.Core.Bool.{true};
+ghost use Prim.Native.Nat.{_<_, _^_};
 ghost use lib.ListN.{length};
-ghost use Rattle.mending.specs.Mending.{mending};
+ghost use Rattle.mending.specs.Mending.{mendedOf, isMended, mending};
 ghost use Rattle.mending.specs.Answers.{answerOf, fileLent, listLent};
 ghost use Rattle.mending.specs.Program.{printing, refusalPrinted};
-ghost use Rattle.mending.specs.Walking.{headerEnds};
+ghost use Rattle.mending.specs.Walking.{headerEnds, fits, sizesOf, SurelyFits};
 ghost use Rattle.mending.specs.declared.header.Header.the-variants.{Three};
 use header::Ends;
 use header::Header;
@@ -24,7 +26,36 @@ pub enum Answer {
     Refused(u32),
 }
 
-// Mends a file by its first three lines. It is measured first, so that nothing is written where it does not fit.
+// Whether a file of so many bytes surely fits, whatever is in it (the laws file-room and list-room): then nothing need be measured.
+fn surely_fits(size: usize, room: Lengths) -> bool
+    requires { ⌜ size < 2 ^ 63 ⌝ }
+    ensures { λ r. ⌜ (r ≡ true → SurelyFits size room) ⌝ }
+{
+    if 100000 < size {
+        return false;
+    }
+    if room.list < 11 * size {
+        return false;
+    }
+    size + size / 72 + 9 <= room.file
+}
+
+// Whether a file with a good header fits in the outputs' room.
+fn has_room(file: &[u8], e: Ends, room: Lengths) -> bool
+    requires { ⌜ headerEnds (now file) ≡ Three e ⌝ }
+    requires { ⌜ (isMended (now file) ≡ true) × ((room .file < 2 ^ 63) × (room .list < 2 ^ 63)) ⌝ }
+    ensures { λ r. ⌜ r ≡ fits (sizesOf (mendedOf (now (file .entry)))) room ⌝ }
+{
+    if surely_fits(file.len(), room) {
+        return true;
+    }
+    match walking::measure(file, e.third + 1, header::header_sizes(file, e), room) {
+        Answer::Done(_) => true,
+        Answer::Refused(_) => false,
+    }
+}
+
+// Mends a file by its first three lines; nothing is written where it does not fit.
 fn mend_headed(file: &[u8], e: Ends, out: &mut [u8], list: &mut [u8]) -> Answer
     requires { ⌜ headerEnds (now file) ≡ Three e ⌝ }
     ensures { λ r. ⌜ (r ≡ answerOf (mending (now (file .entry)) (length (now (out .entry))) (length (now (list .entry)))))
@@ -38,14 +69,11 @@ fn mend_headed(file: &[u8], e: Ends, out: &mut [u8], list: &mut [u8]) -> Answer
         file: out.len(),
         list: list.len(),
     };
-    let place = e.third + 1;
-    match walking::measure(file, place, header::header_sizes(file, e), room) {
-        Answer::Refused(number) => Answer::Refused(number),
-        Answer::Done(_) => {
-            let at = header::put_header(file, e, out, list);
-            walking::walk(file, place, out, list, at, room)
-        }
+    if !has_room(file, e, room) {
+        return Answer::Refused(108);
     }
+    let at = header::put_header(file, e, out, list);
+    walking::walk(file, e.third + 1, out, list, at, room)
 }
 
 // Mends a file.
