@@ -1,9 +1,9 @@
--- What each line gives, as the code has it: by the line's lengths, by what it knows of its letters, and by what becomes of it.
+-- What each line gives, as the code has it: by the line's two lengths, by what was told of its letters, and by what becomes of it.
 -- Assumes nothing.
 use mathlib.Core.Path.{_≡_, refl, sym, ap, ap₂, _∙_}
 use mathlib.Core.Bool.{Bool, true, false, not}
 use mathlib.Core.List.{List, [], _∷_, _++_}
-use Prim.Native.Nat.{ℕ, suc, _+_}
+use Prim.Native.Nat.{ℕ, _+_}
 use native.Mathlib.Numerals.{add-one}
 use native.Mathlib.Omega.{arith}
 use lib.Dec.{eqb, ltb}
@@ -32,16 +32,17 @@ module _ (line start : List ℕ) (is : start ≡ line) (raised : Bool) (told : r
   case-shown : not raised ≡ not (sameText (raisedText line) line)
   case-shown = ap not (told ∙ ap (λ (l : List ℕ). sameText (raisedText l) l) is)
 
-  -- those of :ECS are those that :ECS in capitals has not
+  -- :ECS has some where it is not :ECS in capitals
   ecs-case-shown : isEcs line ≡ true → not raised ≡ not (sameText ecs line)
   ecs-case-shown ended = case-shown ∙ ap (λ (l : List ℕ). not (sameText l line)) (ecs-raised line ended)
 
--- :ECS, once its letters are looked at
+-- :ECS and what stands after it, once its letters were looked at
 pub told-gives : (eol blank : Bool) (count : ℕ) (line after : List ℕ) (raised : Bool) → raised ≡ sameText (raisedText line) line
     → lastGives eol blank count line after ≡ gives ((ecs ++ lineEnd) ++ after) (faultsSaid eol blank (not raised) count) false
 told-gives eol blank count line after raised told =
     ap (λ (b : Bool). gives ((ecs ++ lineEnd) ++ after) (faultsSaid eol blank (not b) count) false) (sym told)
 
+-- a line that LF ends
 module _ (count : ℕ) (text : List ℕ) (n k : ℕ) (sizes : Measured text n k) where
   -- one of the first three
   pub header-gives : (raised : Bool) → raised ≡ sameText (raisedText (take k text)) (take k text)
@@ -60,7 +61,7 @@ module _ (count : ℕ) (text : List ℕ) (n k : ℕ) (sizes : Measured text n k)
       (ap (λ (l : List ℕ). l ++ lineEnd) (sym (mended-taken text n k sizes)))
       (all-faults-shown text n k sizes false count (unblanked (lineOf text)) (sym (ap not (same-refl (unblanked (lineOf text))))))
 
-  -- :ECS
+  -- :ECS, and what stands after it
   pub last-gives : (after : List ℕ) → isEcs (unblanked (lineOf text)) ≡ true
       → givesBy Last count text after ≡ lastGives (eqb n (length text)) (ltb k n) count (take k text) after
   last-gives after ended =

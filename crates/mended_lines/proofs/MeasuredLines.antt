@@ -29,12 +29,13 @@ module _ (line : List ℕ) (k : ℕ) (left : k ≡ length (unblanked line)) wher
   pub left-taken : take k line ≡ unblanked line
   left-taken = ap (λ (m : ℕ). take m line) left ∙ unblanked-start line
 
-  -- and as many as there are
+  -- and so many are taken
   pub left-counted : k ≡ length (take k line)
   left-counted = left ∙ sym (ap length left-taken)
 
 -- of n bytes
 module _ (line : List ℕ) (n k : ℕ) (all : n ≡ length line) (left : k ≡ length (unblanked line)) where
+  -- no more are left
   pub fewer-left : k ≤ n
   fewer-left = omega (arith, unblanked-short line)
 
@@ -51,26 +52,27 @@ module _ (line : List ℕ) (n k : ℕ) (all : n ≡ length line) (left : k ≡ l
 abbrev pub Measured : List ℕ → ℕ → ℕ → Type 0
 Measured text n k = (n ≡ length (lineOf text)) × (k ≡ length (unblanked (lineOf text)))
 
--- the line is taken, by its length
+-- the line is what is taken of its text, by its length
 pub line-taken : (text : List ℕ) (n : ℕ) → n ≡ length (lineOf text) → take n text ≡ lineOf text
 line-taken text n size = ap (λ (m : ℕ). take m text) size ∙ line-start text
 
--- which is that of what is taken
+-- and so many bytes are taken
 pub line-counted : (text : List ℕ) (n : ℕ) → n ≡ length (lineOf text) → n ≡ length (take n text)
 line-counted text n size = size ∙ sym (ap length (line-taken text n size))
 
--- what is left of it is measured on what was taken
+-- what is left of it is measured on that
 pub measured : (text : List ℕ) (n k : ℕ) → n ≡ length (lineOf text) → k ≡ length (unblanked (take n text)) → Measured text n k
 measured text n k size left = (size, left ∙ ap (λ (l : List ℕ). length (unblanked l)) (line-taken text n size))
 
 module _ (text : List ℕ) (n k : ℕ) (sizes : Measured text n k) where
-  -- and is taken of the text at once
+  -- and is taken of the text itself
   pub mended-taken : take k text ≡ unblanked (lineOf text)
   mended-taken =
       sym (take-take k n text (fewer-left (lineOf text) n k (sizes .0) (sizes .1)))
       ∙ ap (take k) (line-taken text n (sizes .0))
       ∙ left-taken (lineOf text) k (sizes .1)
 
+  -- so many bytes again
   pub mended-counted : k ≡ length (take k text)
   mended-counted = sizes .1 ∙ sym (ap length mended-taken)
 

@@ -35,7 +35,7 @@ fn put_cased(out: &mut [u8], at: usize, text: &[u8], raise: bool)
     text::writing::put_text(out, at, text)
 }
 
-// Puts a line so and its CR LF; answers the place after them.
+// Puts a line in the same way, and its CR LF; answers the place after them.
 fn put_line(out: &mut [u8], at: usize, line: &[u8], raise: bool) -> usize
     requires { ⌜ Takes at (cased raise (now line) ++ lineEnd) (now out) ⌝ }
     ensures { λ r. ⌜ (r ≡ at + length (cased raise (now (line .entry)) ++ lineEnd))
@@ -71,7 +71,7 @@ pub fn put_header_line(
     }
 }
 
-// The line :ECS, in any case of its letters, and what stands after its LF, as it stands.
+// The line :ECS, in any case of its letters, its blanks gone, and what stands after its LF, as it stands.
 fn put_last(
     line: &[u8],
     after: &[u8],
@@ -135,7 +135,7 @@ pub fn put_ended(
     }
 }
 
-// What the list says where :ECS is added: the line that is left out, if it has any byte, and :ECS.
+// Puts what the list says where :ECS is added: the line that is left out, if it has any byte, and :ECS; answers the place after it.
 fn put_added(list: &mut [u8], at: usize, count: u64, line: &[u8]) -> usize
     requires { ⌜ count + 1 < 2 ^ 64 ⌝ }
     requires { ⌜ Takes at (addedSaid count (now line)) (now list) ⌝ }
