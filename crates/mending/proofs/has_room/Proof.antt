@@ -1,47 +1,61 @@
+-- `mending::has_room` meets its contract: by the size alone, or as it was measured.
+-- Assumes nothing.
+use mathlib.Core.Path.{_≡_, sym, _∙_}
+use native.Mathlib.Omega.{arith}
 use borrow.Author.Needs.{needs}
+use Rattle.mending.proofs.HeaderTexts.{ends-rise}
+use Rattle.mending.proofs.Mends.{may-measure, measured-fits, measured-long, sure-fits}
 use Rattle.mending.proofs.has_room.Statement.{statement}
 use Rattle.mending.proofs.has_room.Tie as tie
-use Rattle.mending.proofs.has_room.Reads as reads
-use Rattle.mending.proofs.has_room.Lts as lts
-use Rattle.mending.proofs.header.header_sizes.Reads as header-sizes-reads
-use Rattle.mending.proofs.surely_fits.Reads as surely-fits-reads
-use Rattle.mending.proofs.walking.measure.Reads as measure-reads
 
--- src/lib.rt:49:8
 surely-fits-requires : tie.Need-surely-fits-requires
-surely-fits-requires c κs = search needs
+surely-fits-requires c κs = omega (arith, c .before .good .0)
 
--- src/lib.rt:50:9
 returns : tie.Need-returns
-returns c = ?
+returns c =
+    let sure = c .before in
+    let start = sure .before .before in
+    sure-fits (start .args .file .now) (start .args .e) (start .pre .0) (start .pre .1 .0) (start .args .room) (sure .surely-fits .ensures (c .if1 .taken))
 
--- src/lib.rt:52:34
 add-measure : tie.Need-add-measure
-add-measure c = ?
+add-measure c =
+    let start = c .before .before .before .before in
+    let rise = ends-rise (start .args .file .now) (start .args .e) (start .pre .0) in
+    search needs
 
--- src/lib.rt:52:47
 header-sizes-requires : tie.Need-header-sizes-requires
 header-sizes-requires c κs = search needs
 
--- src/lib.rt:52:11
 measure-requires : tie.Need-measure-requires
-measure-requires c κs = ?
+measure-requires c κs =
+    let start = c .before .before .before .before .before in
+    let args = start .args in
+    may-measure (args .file .now) (args .e) (start .pre .0) (start .pre .1 .0) (args .room) (omega (arith, start .good .0)) (start .pre .1 .1 .0) (start .pre .1 .1 .1)
+    (c .header-sizes .result) (c .header-sizes .ensures)
 
--- src/lib.rt:53:28
 enum-told : tie.Need-enum-told
 enum-told c = search needs
 
--- src/lib.rt:54:31
 enum-told-2 : tie.Need-enum-told-2
 enum-told-2 c = search needs
 
--- src/lib.rt:44:1
 returns-2 : tie.Need-returns-2
-returns-2 c = ?
+returns-2 c =
+    let measured = c .before .before in
+    let sized = measured .before in
+    let start = sized .before .before .before .before .before in
+    let args = start .args in
+    measured-fits (args .file .now) (args .e) (start .pre .0) (start .pre .1 .0) (args .room) (sized .header-sizes .result) (sized .header-sizes .ensures)
+    (measured .measure .result) (measured .measure .ensures) (c .enum-told .given .0 .0) (c .enum-told .given .1)
 
--- src/lib.rt:44:1
 returns-3 : tie.Need-returns-3
-returns-3 c = ?
+returns-3 c =
+    let measured = c .before .before in
+    let sized = measured .before in
+    let start = sized .before .before .before .before .before in
+    let args = start .args in
+    measured-long (args .file .now) (args .e) (start .pre .0) (start .pre .1 .0) (args .room) (sized .header-sizes .result) (sized .header-sizes .ensures)
+    (measured .measure .result) (measured .measure .ensures) (c .enum-told2 .given .0 .0) (c .enum-told2 .given .1)
 
 pub has-room-spec : {M : Type 1} → statement M
 has-room-spec =
