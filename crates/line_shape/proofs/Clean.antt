@@ -1,14 +1,13 @@
 -- A row of characters tested one after the other, the faults of all of them taken together.
 -- Assumes nothing.
-use mathlib.Core.Path.{_≡_, refl, sym, ap, ap₂, _∙_}
-use mathlib.Core.Bool.{Bool, true, false, _&&_, and-assoc, and-true}
+use mathlib.Core.Path.{_≡_, sym, ap, ap₂, _∙_}
+use mathlib.Core.Bool.{Bool, _&&_, and-assoc, and-true}
 use mathlib.Core.List.{List}
 use Prim.Native.Nat.{ℕ, _+_, _-_, _≤_, _<_}
 use native.Mathlib.Omega.{arith}
 use lib.Bits.{bitOr}
 use lib.ListN.{length, getD}
 use Rattle.bytes.specs.Every.{allOf}
-use Rattle.bytes.proofs.Every.{either}
 use Rattle.text.specs.Texts.{part}
 use Rattle.text.proofs.TextsAt.{part-first}
 use Rattle.line_shape.proofs.Faults.{passes, both-pass}

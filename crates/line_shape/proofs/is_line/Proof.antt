@@ -1,6 +1,6 @@
 -- `line_shape::is_line` meets its contract. Each part that is wrong makes the line wrong.
 -- Assumes nothing.
-use mathlib.Core.Path.{_≡_, sym, _∙_}
+use mathlib.Core.Path.{sym, _∙_}
 use borrow.Author.Tests.{not-true, not-false}
 use borrow.Author.Needs.{needs}
 use Rattle.line_shape.proofs.Shapes.{too-short, too-long, no-permit, no-level-part, few, by-server}
