@@ -5,6 +5,7 @@ pub mod Unsaid
 pub mod HeaderTexts
 pub mod HeaderPuts
 pub mod TextGives
+pub mod CleanLines
 pub mod Walks
 pub mod Rooms
 pub mod Mends

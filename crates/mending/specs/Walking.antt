@@ -5,7 +5,8 @@ use mathlib.Core.List.{List, [], _∷_, _++_}
 use mathlib.Core.Logic.{_⊎_}
 use Prim.Native.Nat.{ℕ, _+_, _-_, _*_, _/_, _^_, _≤_, _<_}
 use lib.Dec.{leb, ltb}
-use lib.ListN.{length, take, drop}
+use lib.ListN.{length, getD, take, drop}
+use Rattle.cell_permit.specs.Line.{isLine}
 use Rattle.mailed_lines.specs.Texts.{textsOf, textEnds}
 use Rattle.mended_lines.specs.Gives.{Gives, headerGives}
 use Rattle.mended_lines.specs.declared.Places.{Places}
@@ -71,6 +72,16 @@ firstGives count (text ∷ rest) = givesOf count text rest
 -- what the text at a place gives
 unfoldable pub givesAt : List ℕ → ℕ → ℕ → Gives
 givesAt file place count = firstGives count (textsOf (drop place file))
+
+-- at a place stands a record that needs no mending, r bytes with its CR LF
+pub record CleanAt (file : List ℕ) (place r : ℕ) : Type 0 where
+  pub n : ℕ
+  pub size : r ≡ n + 2
+  pub within : place + n + 2 ≤ length file
+  pub shaped : isLine (take n (drop place file)) ≡ true
+  pub no-blank : getD file (place + n - 1) 0 ≡ 32 → ⊥
+  pub cr : getD file (place + n) 0 ≡ 13
+  pub lf : getD file (place + n + 1) 0 ≡ 10
 
 -- the places of what is put next
 abbrev pub placesOf : Going → Places

@@ -6,7 +6,7 @@ ghost use lib.ListN.{length};
 ghost use Rattle.text.specs.Texts.{placed};
 ghost use Rattle.mailed_lines.specs.Texts.{textEnds};
 ghost use Rattle.mended_lines.specs.Giving.{Room, given, outAfter, listAfter};
-ghost use Rattle.mending.specs.Walking.{givesAt, placesOf, turned, laterOf, fits, answered, sizeAfter, Walkable};
+ghost use Rattle.mending.specs.Walking.{givesAt, CleanAt, placesOf, turned, laterOf, fits, answered, sizeAfter, Walkable};
 use super::Answer;
 use super::Lengths;
 use mended_lines::Given;
@@ -45,8 +45,33 @@ fn give(
     mended_lines::put_ended(&file[place..end], &file[end + 1..], count, out, list, at)
 }
 
-// One text.
-fn turn(file: &[u8], out: &mut [u8], list: &mut [u8], t: Going) -> Going
+// How long the record is, with its CR LF, that stands at a place and needs no mending; 0 where there is none, or it has a comment.
+fn clean_length(file: &[u8], place: usize) -> usize
+    requires { ⌜ place ≤ length (now file) ⌝ }
+    ensures { λ r. ⌜ (0 < r → CleanAt (now (file .entry)) place r) ⌝ }
+{
+    let n = line_shape::plain_length(&file[place..]);
+    if n == 0 {
+        return 0;
+    }
+    let end = place + n;
+    if file.len() - end < 2 {
+        return 0;
+    }
+    if file[end - 1] == b' ' {
+        return 0;
+    }
+    if file[end] != b'\r' {
+        return 0;
+    }
+    if file[end + 1] != b'\n' {
+        return 0;
+    }
+    n + 2
+}
+
+// One text, whatever it is.
+fn turn_any(file: &[u8], out: &mut [u8], list: &mut [u8], t: Going) -> Going
     requires { ⌜ (t .place ≤ length (now file)) × (t .count + 1 < 2 ^ 64) ⌝ }
     requires { ⌜ Room (givesAt (now file) (t .place) (t .count)) (placesOf t) (now out) (now list) ⌝ }
     ensures { λ r. ⌜ (r ≡ turned (now (file .entry)) t)
@@ -65,6 +90,30 @@ fn turn(file: &[u8], out: &mut [u8], list: &mut [u8], t: Going) -> Going
         file: g.file,
         list: g.list,
         more: g.more,
+    }
+}
+
+// One text. A record that needs no mending is copied as it stands.
+fn turn(file: &[u8], out: &mut [u8], list: &mut [u8], t: Going) -> Going
+    requires { ⌜ (t .place ≤ length (now file)) × (t .count + 1 < 2 ^ 64) ⌝ }
+    requires { ⌜ Room (givesAt (now file) (t .place) (t .count)) (placesOf t) (now out) (now list) ⌝ }
+    ensures { λ r. ⌜ (r ≡ turned (now (file .entry)) t)
+        × ((now (out .exit) ≡ outAfter (givesAt (now (file .entry)) (t .place) (t .count)) (placesOf t) (now (out .entry)))
+        × (now (list .exit) ≡ listAfter (givesAt (now (file .entry)) (t .place) (t .count)) (placesOf t) (now (list .entry)))) ⌝ }
+{
+    let place = t.place;
+    let n = clean_length(file, place);
+    if n == 0 {
+        return turn_any(file, out, list, t);
+    }
+    let next = place + n;
+    text::writing::put_text(out, t.file, &file[place..next]);
+    Going {
+        place: next,
+        count: t.count + 1,
+        file: t.file + n,
+        list: t.list,
+        more: true,
     }
 }
 
