@@ -11,6 +11,8 @@ ghost use Rattle.file_lines.specs.Dated.{isBelow, isDated};
 use bytes::numbers::Reading;
 use std::num::wrapping_sub_u64;
 
+pub mod texts; // texts.rt: texts that LF ends
+
 // What stands at a place of a file: a line, with the place of its CR LF; what no CR LF ends; or nothing to read.
 pub enum LineFound {
     Line(usize),
@@ -24,7 +26,7 @@ const TOP: u64 = 0x8080_8080_8080_8080;
 const PAST_CR: u64 = 0x0e0e_0e0e_0e0e_0e0e;
 
 // Whether the eight bytes of x are surely all beyond CR, as printed characters are: 14 taken from each leaves no top bit, and borrows nothing.
-pub fn are_past_cr(x: u64) -> bool
+pub(crate) fn are_past_cr(x: u64) -> bool
     ensures { λ r. ⌜ (r ≡ true → allOf (ltb 13) (bytesOf 8 x) ≡ true) ⌝ }
 {
     wrapping_sub_u64(x, PAST_CR) & TOP == 0

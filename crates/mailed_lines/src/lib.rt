@@ -6,7 +6,6 @@ ghost use Rattle.text.specs.Texts.{sameText};
 ghost use Rattle.mailed_lines.specs.Mailed.{lineOf, unblanked, isEcs, fateOf};
 
 pub mod saying; // saying.rt: the list's lines
-pub mod texts; // texts.rt: where a text ends
 
 // What becomes of a line after the third: it is kept, it is :ECS, the last that is looked at, or it is left out.
 pub enum Fate {

@@ -1,38 +1,62 @@
-// The list's lines, put one after the other. An empty list takes nothing: then the places alone are told.
+// The list's lines, put at a place of it. Each answers how many bytes that is, whether or not they lie within the list: so an empty list measures them.
 ghost use mathlib.Core.Path.{_≡_};
+ghost use mathlib.Core.Bool.{cond};
 ghost use mathlib.Core.List.{_++_};
-ghost use Prim.Native.Nat.{_+_};
+ghost use Prim.Native.Nat.{_+_, _≤_};
 ghost use lib.ListN.{length};
-ghost use Rattle.text.specs.Texts.{numeral, placed};
+ghost use Rattle.text.specs.Texts.{width, numeral, placed};
 ghost use Rattle.mailed_lines.specs.Saying.{faultsSaid, outSaid};
-ghost use Rattle.mailed_lines.specs.Putting.{Takes, countedIf};
+ghost use Rattle.mailed_lines.specs.Putting.{countedIf};
 
-// Puts a line's count and what follows it; answers the place after them.
+// A line's count and what follows it.
 pub fn put_counted(list: &mut [u8], at: usize, count: u64, rest: &[u8]) -> usize
-    requires { ⌜ Takes at (numeral count ++ now rest) (now list) ⌝ }
-    ensures { λ r. ⌜ (r ≡ at + length (numeral count ++ now (rest .entry)))
+    ensures { λ r. ⌜ (r ≡ length (numeral count ++ now (rest .entry)))
         × (now (list .exit) ≡ placed at (numeral count ++ now (rest .entry)) (now (list .entry))) ⌝ }
 {
     let n = text::writing::width(count);
-    text::writing::put_decimal(list, at, n, count);
-    text::writing::put_text(list, at + n, rest);
-    at + n + rest.len()
+    let size = n + rest.len();
+    if bytes::numbers::lies_within(list, at, size) {
+        text::writing::put_decimal(list, at, n, count);
+        text::writing::put_text(list, at + n, rest);
+    }
+    size
 }
 
 // The same where there is a fault.
 fn put_if(list: &mut [u8], at: usize, fault: bool, count: u64, rest: &[u8]) -> usize
-    requires { ⌜ Takes at (countedIf fault count (now rest)) (now list) ⌝ }
-    ensures { λ r. ⌜ (r ≡ at + length (countedIf fault count (now (rest .entry))))
+    ensures { λ r. ⌜ (r ≡ length (countedIf fault count (now (rest .entry))))
         × (now (list .exit) ≡ placed at (countedIf fault count (now (rest .entry))) (now (list .entry))) ⌝ }
 {
     if fault {
         put_counted(list, at, count, rest)
     } else {
-        at
+        0
     }
 }
 
-// Puts a list line for each fault of a line, in their order; answers the place after them.
+// How long a list line is that has so many bytes after its count, where there is a fault.
+fn length_if(fault: bool, count: u64, letters: usize) -> usize
+    requires { ⌜ letters ≤ 7 ⌝ }
+    ensures { λ r. ⌜ r ≡ cond fault (width count + letters) 0 ⌝ }
+{
+    if fault {
+        text::writing::width(count) + letters
+    } else {
+        0
+    }
+}
+
+// A list line for each fault, which all lie within the list.
+fn put_each(list: &mut [u8], at: usize, eol: bool, blank: bool, case: bool, count: u64)
+    requires { ⌜ at + length (faultsSaid eol blank case count) ≤ length (now list) ⌝ }
+    ensures { λ _. ⌜ now (list .exit) ≡ placed at (faultsSaid eol blank case count) (now (list .entry)) ⌝ }
+{
+    let second = at + put_if(list, at, eol, count, b" EOL\n");
+    let third = second + put_if(list, second, blank, count, b" BLANK\n");
+    put_if(list, third, case, count, b" CASE\n");
+}
+
+// A list line for each fault of a line, in their order.
 pub fn put_faults(
     list: &mut [u8],
     at: usize,
@@ -41,23 +65,27 @@ pub fn put_faults(
     case: bool,
     count: u64,
 ) -> usize
-    requires { ⌜ Takes at (faultsSaid eol blank case count) (now list) ⌝ }
-    ensures { λ r. ⌜ (r ≡ at + length (faultsSaid eol blank case count))
+    ensures { λ r. ⌜ (r ≡ length (faultsSaid eol blank case count))
         × (now (list .exit) ≡ placed at (faultsSaid eol blank case count) (now (list .entry))) ⌝ }
 {
-    let second = put_if(list, at, eol, count, b" EOL\n");
-    let third = put_if(list, second, blank, count, b" BLANK\n");
-    put_if(list, third, case, count, b" CASE\n")
+    let size = length_if(eol, count, 5) + length_if(blank, count, 7) + length_if(case, count, 6);
+    if bytes::numbers::lies_within(list, at, size) {
+        put_each(list, at, eol, blank, case, count);
+    }
+    size
 }
 
-// Puts the list line of a line left out; answers the place after it.
+// The list line of a line left out.
 pub fn put_out(list: &mut [u8], at: usize, count: u64, line: &[u8]) -> usize
-    requires { ⌜ Takes at (outSaid count (now line)) (now list) ⌝ }
-    ensures { λ r. ⌜ (r ≡ at + length (outSaid count (now (line .entry))))
+    ensures { λ r. ⌜ (r ≡ length (outSaid count (now (line .entry))))
         × (now (list .exit) ≡ placed at (outSaid count (now (line .entry))) (now (list .entry))) ⌝ }
 {
-    let start = put_counted(list, at, count, b" OUT ");
-    text::writing::put_text(list, start, line);
-    text::writing::put_text(list, start + line.len(), b"\n");
-    start + line.len() + 1
+    let start = text::writing::width(count) + 5;
+    let size = start + line.len() + 1;
+    if bytes::numbers::lies_within(list, at, size) {
+        put_counted(list, at, count, b" OUT ");
+        text::writing::put_text(list, at + start, line);
+        text::writing::put_text(list, at + start + line.len(), b"\n");
+    }
+    size
 }

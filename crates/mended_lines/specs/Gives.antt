@@ -1,7 +1,7 @@
 -- What each line of a mailed permit file gives: its part of the mended file, and its part of the list.
 use mathlib.Core.Bool.{Bool, true, false, cond, not}
 use mathlib.Core.List.{List, [], _∷_, _++_}
-use Prim.Native.Nat.{ℕ, suc}
+use Prim.Native.Nat.{ℕ}
 use Rattle.text.specs.Ascii.{ascii}
 use Rattle.text.specs.Characters.{raisedText}
 use Rattle.text.specs.Texts.{sameText}
@@ -45,10 +45,10 @@ givesBy Last count text after = record {
 }
 givesBy Out count text after = record { file = []; list = outSaid count (lineOf text); more = true }
 
--- what no LF ends: :ECS is kept without a line end, all else is left out and :ECS added, counted one past the last line
-unfoldable pub unendedGives : ℕ → List ℕ → Gives
-unendedGives count [] = record { file = ecs ++ lineEnd; list = said count (ascii "ECS"); more = false }
-unendedGives count (c ∷ line) =
+-- what no LF ends: :ECS is kept without a line end, all else is left out and :ECS added, counted one past the last line, next where this is one
+unfoldable pub unendedGives : ℕ → ℕ → List ℕ → Gives
+unendedGives count next [] = record { file = ecs ++ lineEnd; list = said count (ascii "ECS"); more = false }
+unendedGives count next (c ∷ line) =
     cond (isEcs (unblanked (c ∷ line)))
     (record { file = ecs; list = faultsOf false count (c ∷ line) ecs; more = false })
-    (record { file = ecs ++ lineEnd; list = outSaid count (c ∷ line) ++ said (suc count) (ascii "ECS"); more = false })
+    (record { file = ecs ++ lineEnd; list = outSaid count (c ∷ line) ++ said next (ascii "ECS"); more = false })

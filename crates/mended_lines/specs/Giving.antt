@@ -1,7 +1,7 @@
 -- What a line gives, put into two outputs. For contracts inside the crate and above.
 use mathlib.Core.Bool.{Bool, false, cond, not}
 use mathlib.Core.List.{List, [], _∷_, _++_}
-use Prim.Native.Nat.{ℕ, suc, _+_}
+use Prim.Native.Nat.{ℕ}
 use lib.ListN.{length}
 use Rattle.text.specs.Ascii.{ascii}
 use Rattle.text.specs.Characters.{raisedText}
@@ -9,18 +9,13 @@ use Rattle.text.specs.Texts.{sameText, placed}
 use Rattle.cell_permit.specs.CellPermit.{lineEnd}
 use Rattle.file_lines.specs.Lines.{ecs}
 use Rattle.mailed_lines.specs.Saying.{said, faultsSaid, outSaid}
-use Rattle.mailed_lines.specs.Putting.{Takes}
 use Rattle.mended_lines.specs.Gives.{Gives}
 use Rattle.mended_lines.specs.declared.Places.{Places}
 use Rattle.mended_lines.specs.declared.Given.{Given}
 
--- both outputs take it at these places, or are empty
-abbrev pub Room : Gives → Places → List ℕ → List ℕ → Type 0
-Room g at out list = Takes (at .file) (g .file) out × Takes (at .list) (g .list) list
-
--- the places after it, and whether lines after it are looked at
-abbrev pub given : Gives → Places → Given
-given g at = record { file = at .file + length (g .file); list = at .list + length (g .list); more = g .more }
+-- how many bytes it has of both, and whether lines after it are looked at
+abbrev pub given : Gives → Given
+given g = record { file = length (g .file); list = length (g .list); more = g .more }
 
 -- the two outputs afterwards
 abbrev pub outAfter : Gives → Places → List ℕ → List ℕ
@@ -42,6 +37,6 @@ lastGives eol blank count line after = record {
 }
 
 -- what the list says where :ECS is added: the line that is left out, if it has any byte, and :ECS
-unfoldable pub addedSaid : ℕ → List ℕ → List ℕ
-addedSaid count [] = said count (ascii "ECS")
-addedSaid count (c ∷ line) = outSaid count (c ∷ line) ++ said (suc count) (ascii "ECS")
+unfoldable pub addedSaid : ℕ → ℕ → List ℕ → List ℕ
+addedSaid count next [] = said count (ascii "ECS")
+addedSaid count next (c ∷ line) = outSaid count (c ∷ line) ++ said next (ascii "ECS")

@@ -1,24 +1,23 @@
-// What each line of a mailed permit file gives: its part of the mended file and its part of the list, put after those before it.
-// An empty output takes nothing: then the places alone are told, and a text's length is measured without an output.
+// What each line of a mailed permit file gives: its part of the mended file and its part of the list, each put at a place of its output.
+// Each function answers how many bytes both have, whether or not they lie within their outputs: so empty outputs measure them.
 ghost use mathlib.Core.Path.{_≡_};
 ghost use mathlib.Core.List.{_++_};
-ghost use Prim.Native.Nat.{_+_, _<_, _^_};
 ghost use lib.ListN.{length};
 ghost use Rattle.text.specs.Texts.{placed};
 ghost use Rattle.cell_permit.specs.CellPermit.{lineEnd};
+ghost use Rattle.file_lines.specs.Lines.{ecs};
 ghost use Rattle.mailed_lines.specs.Mailed.{lineOf, unblanked, fateOf};
-ghost use Rattle.mailed_lines.specs.Putting.{Takes};
 ghost use Rattle.mended_lines.specs.Gives.{headerGives, givesBy, unendedGives};
-ghost use Rattle.mended_lines.specs.Giving.{Room, given, outAfter, listAfter, cased, lastGives, addedSaid};
+ghost use Rattle.mended_lines.specs.Giving.{given, outAfter, listAfter, cased, lastGives, addedSaid};
 use mailed_lines::Fate;
 
-// Where the next texts are put, in the mended file and in the list.
+// Where the texts are put, in the mended file and in the list.
 pub struct Places {
     pub file: usize,
     pub list: usize,
 }
 
-// The places after what a line gave, and whether lines after it are looked at.
+// How many bytes a line gives of both, and whether lines after it are looked at.
 pub struct Given {
     pub file: usize,
     pub list: usize,
@@ -35,16 +34,30 @@ fn put_cased(out: &mut [u8], at: usize, text: &[u8], raise: bool)
     text::writing::put_text(out, at, text)
 }
 
-// Puts a line in the same way, and its CR LF; answers the place after them.
+// Puts a line in the same way, and its CR LF; answers how many bytes they are.
 fn put_line(out: &mut [u8], at: usize, line: &[u8], raise: bool) -> usize
-    requires { ⌜ Takes at (cased raise (now line) ++ lineEnd) (now out) ⌝ }
-    ensures { λ r. ⌜ (r ≡ at + length (cased raise (now (line .entry)) ++ lineEnd))
+    ensures { λ r. ⌜ (r ≡ length (cased raise (now (line .entry)) ++ lineEnd))
         × (now (out .exit) ≡ placed at (cased raise (now (line .entry)) ++ lineEnd) (now (out .entry))) ⌝ }
 {
-    let end = at + line.len();
-    put_cased(out, at, line, raise);
-    text::writing::put_text(out, end, b"\r\n");
-    end + 2
+    let size = line.len() + 2;
+    if bytes::numbers::lies_within(out, at, size) {
+        put_cased(out, at, line, raise);
+        text::writing::put_text(out, at + line.len(), b"\r\n");
+    }
+    size
+}
+
+// Puts the line :ECS, its CR LF and what stands after it, as it stands; answers how many bytes they are.
+fn put_ecs(out: &mut [u8], at: usize, after: &[u8]) -> usize
+    ensures { λ r. ⌜ (r ≡ length ((ecs ++ lineEnd) ++ now (after .entry)))
+        × (now (out .exit) ≡ placed at ((ecs ++ lineEnd) ++ now (after .entry)) (now (out .entry))) ⌝ }
+{
+    let size = 6 + after.len();
+    if bytes::numbers::lies_within(out, at, size) {
+        text::writing::put_text(out, at, b":ECS\r\n");
+        put_cased(out, at + 6, after, false);
+    }
+    size
 }
 
 // One of the first three lines.
@@ -55,8 +68,7 @@ pub fn put_header_line(
     list: &mut [u8],
     at: Places,
 ) -> Given
-    requires { ⌜ Room (headerGives count (now text)) at (now out) (now list) ⌝ }
-    ensures { λ r. ⌜ (r ≡ given (headerGives count (now (text .entry))) at)
+    ensures { λ r. ⌜ (r ≡ given (headerGives count (now (text .entry))))
         × ((now (out .exit) ≡ outAfter (headerGives count (now (text .entry))) at (now (out .entry)))
         × (now (list .exit) ≡ listAfter (headerGives count (now (text .entry))) at (now (list .entry)))) ⌝ }
 {
@@ -82,16 +94,13 @@ fn put_last(
     list: &mut [u8],
     at: Places,
 ) -> Given
-    requires { ⌜ Room (lastGives eol blank count (now line) (now after)) at (now out) (now list) ⌝ }
-    ensures { λ r. ⌜ (r ≡ given (lastGives eol blank count (now (line .entry)) (now (after .entry))) at)
+    ensures { λ r. ⌜ (r ≡ given (lastGives eol blank count (now (line .entry)) (now (after .entry))))
         × ((now (out .exit) ≡ outAfter (lastGives eol blank count (now (line .entry)) (now (after .entry))) at (now (out .entry)))
         × (now (list .exit) ≡ listAfter (lastGives eol blank count (now (line .entry)) (now (after .entry))) at (now (list .entry)))) ⌝ }
 {
     let case = !mailed_lines::is_raised(line);
-    let rest = put_line(out, at.file, b":ECS", false);
-    put_cased(out, rest, after, false);
     Given {
-        file: rest + after.len(),
+        file: put_ecs(out, at.file, after),
         list: mailed_lines::saying::put_faults(list, at.list, eol, blank, case, count),
         more: false,
     }
@@ -106,8 +115,7 @@ pub fn put_ended(
     list: &mut [u8],
     at: Places,
 ) -> Given
-    requires { ⌜ Room (givesBy (fateOf (unblanked (lineOf (now text)))) count (now text) (now after)) at (now out) (now list) ⌝ }
-    ensures { λ r. ⌜ (r ≡ given (givesBy (fateOf (unblanked (lineOf (now (text .entry))))) count (now (text .entry)) (now (after .entry))) at)
+    ensures { λ r. ⌜ (r ≡ given (givesBy (fateOf (unblanked (lineOf (now (text .entry))))) count (now (text .entry)) (now (after .entry))))
         × ((now (out .exit) ≡ outAfter (givesBy (fateOf (unblanked (lineOf (now (text .entry))))) count (now (text .entry)) (now (after .entry))) at (now (out .entry)))
         × (now (list .exit) ≡ listAfter (givesBy (fateOf (unblanked (lineOf (now (text .entry))))) count (now (text .entry)) (now (after .entry))) at (now (list .entry)))) ⌝ }
 {
@@ -127,7 +135,7 @@ pub fn put_ended(
         Fate::Out => {
             let listed = mailed_lines::saying::put_out(list, at.list, count, line);
             Given {
-                file: at.file,
+                file: 0,
                 list: listed,
                 more: true,
             }
@@ -135,27 +143,37 @@ pub fn put_ended(
     }
 }
 
-// Puts what the list says where :ECS is added: the line that is left out, if it has any byte, and :ECS; answers the place after it.
-fn put_added(list: &mut [u8], at: usize, count: u64, line: &[u8]) -> usize
-    requires { ⌜ count + 1 < 2 ^ 64 ⌝ }
-    requires { ⌜ Takes at (addedSaid count (now line)) (now list) ⌝ }
-    ensures { λ r. ⌜ (r ≡ at + length (addedSaid count (now (line .entry)))) × (now (list .exit) ≡ placed at (addedSaid count (now (line .entry))) (now (list .entry))) ⌝ }
+// Puts what the list says where :ECS is added: the line that is left out, if it has any byte, and :ECS; answers how many bytes that is.
+fn put_added(list: &mut [u8], at: usize, count: u64, next: u64, line: &[u8]) -> usize
+    ensures { λ r. ⌜ (r ≡ length (addedSaid count next (now (line .entry))))
+        × (now (list .exit) ≡ placed at (addedSaid count next (now (line .entry))) (now (list .entry))) ⌝ }
 {
     let said: &[u8] = b" ECS\n";
     if line.len() == 0 {
         return mailed_lines::saying::put_counted(list, at, count, said);
     }
-    let next = mailed_lines::saying::put_out(list, at, count, line);
-    mailed_lines::saying::put_counted(list, next, count + 1, said)
+    let mut none = [0u8; 0];
+    let out = mailed_lines::saying::put_out(&mut none, 0, count, line);
+    let size = out + mailed_lines::saying::put_counted(&mut none, 0, next, said);
+    if bytes::numbers::lies_within(list, at, size) {
+        mailed_lines::saying::put_out(list, at, count, line);
+        mailed_lines::saying::put_counted(list, at + out, next, said);
+    }
+    size
 }
 
-// What no LF ends.
-pub fn put_unended(line: &[u8], count: u64, out: &mut [u8], list: &mut [u8], at: Places) -> Given
-    requires { ⌜ count + 1 < 2 ^ 64 ⌝ }
-    requires { ⌜ Room (unendedGives count (now line)) at (now out) (now list) ⌝ }
-    ensures { λ r. ⌜ (r ≡ given (unendedGives count (now (line .entry))) at)
-        × ((now (out .exit) ≡ outAfter (unendedGives count (now (line .entry))) at (now (out .entry)))
-        × (now (list .exit) ≡ listAfter (unendedGives count (now (line .entry))) at (now (list .entry)))) ⌝ }
+// What no LF ends; an added :ECS is counted next, where this is a line.
+pub fn put_unended(
+    line: &[u8],
+    count: u64,
+    next: u64,
+    out: &mut [u8],
+    list: &mut [u8],
+    at: Places,
+) -> Given
+    ensures { λ r. ⌜ (r ≡ given (unendedGives count next (now (line .entry))))
+        × ((now (out .exit) ≡ outAfter (unendedGives count next (now (line .entry))) at (now (out .entry)))
+        × (now (list .exit) ≡ listAfter (unendedGives count next (now (line .entry))) at (now (list .entry)))) ⌝ }
 {
     let ecs: &[u8] = b":ECS";
     let k = mailed_lines::unblanked_length(line);
@@ -163,14 +181,14 @@ pub fn put_unended(line: &[u8], count: u64, out: &mut [u8], list: &mut [u8], at:
     if !mailed_lines::is_ecs(left) {
         return Given {
             file: put_line(out, at.file, ecs, false),
-            list: put_added(list, at.list, count, line),
+            list: put_added(list, at.list, count, next, line),
             more: false,
         };
     }
     let case = !mailed_lines::is_raised(left);
     text::writing::put_text(out, at.file, ecs);
     Given {
-        file: at.file + 4,
+        file: 4,
         list: mailed_lines::saying::put_faults(list, at.list, false, k < line.len(), case, count),
         more: false,
     }
