@@ -1,9 +1,9 @@
 // Whether a text has the shape of a permit line. A test of a character leaves its answer in a top bit, so that those of many are taken together, and no branch is made for each of them.
 ghost use mathlib.Core.Path.{_≡_};
 ghost use mathlib.Core.Bool.{true, cond};
-ghost use Prim.Native.Nat.{_-_, _≤_, _<_};
+ghost use Prim.Native.Nat.{_-_, _≤_};
 ghost use lib.Dec.{ltb};
-ghost use lib.ListN.{length, take};
+ghost use lib.ListN.{length};
 ghost use Rattle.bytes.specs.Numbers.{bytesOf};
 ghost use Rattle.bytes.specs.Every.{allOf};
 ghost use Rattle.text.specs.Characters.{between, isDigit, isHex, isNameCharacter, isPrintable, decimalNumber};
@@ -12,6 +12,7 @@ ghost use Rattle.dates.specs.Calendar.{isDate};
 ghost use Rattle.cell_permit.specs.Line.{isPermit, editionLength, isLine};
 ghost use Rattle.cell_permit.specs.LineParts.{isLevelPart, isServerPart};
 ghost use Rattle.line_shape.specs.Pairs.{isEarly};
+ghost use Rattle.line_shape.specs.Plain.{plainLength};
 use std::num::wrapping_sub_u8;
 
 // '0' eight times.
@@ -200,13 +201,12 @@ pub fn is_line(line: &[u8]) -> bool
     is_server_part(line, edition_length(line))
 }
 
-// How long the line without a comment is that a text begins with; 0 where it begins with none, or has less than 74 bytes.
+// How long a line without a comment would be that a text begins with, by its edition; 0 where it has less than 74 bytes.
 pub fn plain_length(text: &[u8]) -> usize
-    ensures { λ r. ⌜ (r ≤ length (now (text .entry))) × (0 < r → isLine (take r (now (text .entry))) ≡ true) ⌝ }
+    ensures { λ r. ⌜ r ≡ plainLength (now (text .entry)) ⌝ }
 {
     if text.len() < 74 {
         return 0;
     }
-    let n = 71 + edition_length(text);
-    if is_line(&text[..n]) { n } else { 0 }
+    71 + edition_length(text)
 }

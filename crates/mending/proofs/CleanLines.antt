@@ -22,7 +22,8 @@ use Rattle.cell_permit.specs.Line.{commaAt, editionLength, commentPlace, isLine
 use Rattle.cell_permit.proofs.GoodLine.{GoodLine, good-line}
 use Rattle.cell_permit.proofs.ReadFields.{comma-within, leading-all}
 use Rattle.line_shape.proofs.Shapes.{shortest-line}
-use Rattle.mailed_lines.specs.Texts.{textsOf, textLength, textEnds}
+use Rattle.file_lines.specs.Texts.{textLength, textEnds}
+use Rattle.mailed_lines.specs.Texts.{textsOf}
 use Rattle.mailed_lines.specs.Mailed.{unblanked}
 use Rattle.mailed_lines.proofs.CutTexts.{notLf, never-empty, text-before}
 use Rattle.mailed_lines.proofs.Fates.{line-kept}
@@ -30,7 +31,8 @@ use Rattle.mailed_lines.proofs.Lengths.{blanks-start, other-stays}
 use Rattle.mailed_lines.proofs.Lines.{line-before-cr, cr-at-end, unblanked-start}
 use Rattle.mailed_lines.proofs.SaidTexts.{none-said}
 use Rattle.mended_lines.specs.Gives.{Gives}
-use Rattle.mended_lines.specs.Giving.{Room, outAfter, listAfter}
+use Rattle.mended_lines.specs.Giving.{outAfter, listAfter}
+use Rattle.mending.specs.Putting.{Room}
 use Rattle.mending.specs.Mending.{givesOf}
 use Rattle.mending.specs.Walking.{firstGives, givesAt, CleanAt, placesOf, turned}
 use Rattle.mending.specs.declared.walking.Going.{Going}

@@ -5,10 +5,11 @@ use mathlib.Core.List.{List}
 use Prim.Native.Nat.{ℕ}
 use native.Mathlib.Nat.{zero-add}
 use Rattle.text.specs.Texts.{placed}
-use Rattle.mailed_lines.specs.Putting.{Takes}
-use Rattle.mailed_lines.proofs.Puts.{Put, takes-first, takes-second, takes-third, put-three}
+use Rattle.mending.specs.Putting.{Takes}
+use Rattle.mending.proofs.Puts.{Put, takes-first, takes-second, takes-third, put-three}
 use Rattle.mended_lines.specs.Gives.{Gives, headerGives}
-use Rattle.mended_lines.specs.Giving.{Room, outAfter, listAfter}
+use Rattle.mended_lines.specs.Giving.{outAfter, listAfter}
+use Rattle.mending.specs.Putting.{Room}
 use Rattle.mended_lines.specs.declared.Places.{Places}
 use Rattle.mending.specs.Walking.{firstText, secondText, thirdText, placesAfter, headerOf, sizeOf}
 use Rattle.mending.specs.declared.header.Ends.{Ends}

@@ -16,7 +16,8 @@ use Rattle.text.proofs.Numerals.{width-at-most}
 use Rattle.cell_permit.specs.CellPermit.{lineEnd}
 use Rattle.permit_file.specs.File.{isHeader, firstPlace}
 use Rattle.permit_file.proofs.Headers.{header-within, header-first}
-use Rattle.mailed_lines.specs.Texts.{textsOf, textEnds}
+use Rattle.file_lines.specs.Texts.{textEnds}
+use Rattle.mailed_lines.specs.Texts.{textsOf}
 use Rattle.mailed_lines.specs.Mailed.{endsInCr, lineOf, unblanked}
 use Rattle.mailed_lines.proofs.CutTexts.{AllWithout, firstOf, restOf, never-empty, text-begins, text-ends-within, last-text-at, first-text-at, texts-without}
 use Rattle.mailed_lines.proofs.Lines.{line-short, unblanked-short}

@@ -13,7 +13,7 @@ use Rattle.bytes.proofs.Every.{either, never-both, and-first, and-second}
 use Rattle.text.specs.Ascii.{ascii}
 use Rattle.text.specs.Texts.{placed}
 use Rattle.text.proofs.PlacedTexts.{length-placed, placed-start, placed-next}
-use Rattle.mailed_lines.specs.Putting.{Takes}
+use Rattle.mending.specs.Putting.{Takes}
 use Rattle.mended_lines.specs.declared.Places.{Places}
 use Rattle.mending.specs.Mending.{Mended, mendedOf, isMended, Outcome, done, refused, mending}
 use Rattle.mending.specs.Answers.{answerOf, fileLent, listLent}

@@ -8,7 +8,7 @@ use native.Mathlib.Omega.{arith}
 use lib.ListN.{length, length-append}
 use Rattle.text.specs.Texts.{placed}
 use Rattle.text.proofs.PlacedTexts.{length-placed, placed-none, placed-beyond, placed-next}
-use Rattle.mailed_lines.specs.Putting.{Takes}
+use Rattle.mending.specs.Putting.{Takes}
 
 -- a text is put at a place, and ends at another
 abbrev pub Put : ℕ → List ℕ → List ℕ → ℕ → List ℕ → Type 0

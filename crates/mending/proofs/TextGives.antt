@@ -1,6 +1,6 @@
 -- What the text at a place gives: by whether LF ends it, how long it is, and that the rest follows it.
 -- Assumes nothing.
-use mathlib.Core.Path.{_≡_, refl, sym, ap, _∙_}
+use mathlib.Core.Path.{_≡_, refl, sym, ap, ap₂, _∙_}
 use mathlib.Core.Bool.{Bool, true, false, cond, not}
 use mathlib.Core.List.{List, [], _∷_, _++_}
 use Prim.Native.Nat.{ℕ, suc, _+_, _-_, _*_, _≤_, _<_}
@@ -15,7 +15,8 @@ use Rattle.text.specs.Ascii.{ascii}
 use Rattle.text.specs.Texts.{width, sameText}
 use Rattle.cell_permit.specs.CellPermit.{lineEnd}
 use Rattle.file_lines.specs.Lines.{ecs}
-use Rattle.mailed_lines.specs.Texts.{textsOf, joined, textEnds}
+use Rattle.file_lines.specs.Texts.{textEnds}
+use Rattle.mailed_lines.specs.Texts.{textsOf, joined}
 use Rattle.mailed_lines.specs.Mailed.{endsInCr, lineOf, unblanked, isEcs, fateOf}
 use Rattle.mailed_lines.specs.Saying.{said, outSaid}
 use Rattle.mailed_lines.specs.declared.Fate.{Fate}
@@ -44,7 +45,7 @@ module _ (file : List ℕ) (place count : ℕ) where
   ended-gives rest = firstGives count (text ∷ rest)
 
   -- what no LF ends
-  pub gives-last : place ≤ length file → end ≡ length file → givesAt file place count ≡ unendedGives count (drop place file)
+  pub gives-last : place ≤ length file → end ≡ length file → givesAt file place count ≡ unendedGives count (suc count) (drop place file)
   unfolding givesAt givesOf
   gives-last within whole = ap (firstGives count) (last-text-at file place within whole)
 
@@ -56,7 +57,7 @@ module _ (file : List ℕ) (place count : ℕ) where
       ∙ ap (givesBy (fateOf (unblanked (lineOf text))) count text) (ap joined (sym (never-empty after)) ∙ joined-texts after)
 
 -- nothing follows what no LF ends
-last-more : (count : ℕ) (line : List ℕ) → unendedGives count line .more ≡ false
+last-more : (count : ℕ) (line : List ℕ) → unendedGives count (suc count) line .more ≡ false
 unfolding unendedGives
 last-more count [] = refl
 last-more count (c ∷ line) = either (isEcs (unblanked (c ∷ line))) (λ is. rw is) (λ other. rw other)
@@ -79,7 +80,7 @@ module _ (file : List ℕ) (place count : ℕ) where
   unfolding mendedFrom givesOf
   turn-last within whole =
       ap (mendedFrom count) (last-text-at file place within whole)
-      ∙ last-followed (unendedGives count (drop place file)) _ next (last-more count (drop place file))
+      ∙ last-followed (unendedGives count (suc count) (drop place file)) _ next (last-more count (drop place file))
       ∙ ap (λ (g : Gives). followed g next) (sym (gives-last file place count within whole))
 
   pub mended-turn : place ≤ length file → mendedFrom count (textsOf (drop place file)) ≡ followed (givesAt file place count) next
@@ -116,12 +117,12 @@ module _ (count wide : ℕ) (few : width count ≤ wide) (next : width (suc coun
       omega (arith, few, faults-length (not (endsInCr text)) (not (sameText (unblanked line) line)) (not (sameText ecs (unblanked line))) count)
   ended-list Out text after = omega (arith, few, out-length count (lineOf text), line-short text)
 
-  unended-file : (line : List ℕ) → length (unendedGives count line .file) ≤ 6
+  unended-file : (line : List ℕ) → length (unendedGives count (suc count) line .file) ≤ 6
   unfolding unendedGives
   unended-file [] = omega arith
   unended-file (c ∷ line) = either (isEcs (unblanked (c ∷ line))) (λ is. rw is (omega arith)) (λ other. rw other (omega arith))
 
-  unended-list : (line : List ℕ) → length (unendedGives count line .list) ≤ length line + (3 * wide + 18)
+  unended-list : (line : List ℕ) → length (unendedGives count (suc count) line .list) ≤ length line + (3 * wide + 18)
   unfolding unendedGives
   unended-list [] = omega (arith, few, said-length count (ascii "ECS"))
   unended-list (c ∷ line) =
@@ -167,10 +168,10 @@ module _ (count wide : ℕ) (few : width count ≤ wide) (next : width (suc coun
 
 -- as the code has its texts: parts of the file, with the ends that it found
 module _ (file : List ℕ) (place end count : ℕ) (within : place ≤ length file) (is : end ≡ textEnds file place) where
-  pub unended-part : end ≡ length file → givesAt file place count ≡ unendedGives count (take (length file - place) (drop place file))
+  pub unended-part : end ≡ length file → givesAt file place count ≡ unendedGives count (count + 1) (take (length file - place) (drop place file))
   unended-part whole =
       gives-last file place count within (sym is ∙ whole)
-      ∙ ap (unendedGives count) (sym (take-all (length file - place) (drop place file) (omega (arith, length-drop place file))))
+      ∙ ap₂ (unendedGives count) (sym (add-one count)) (sym (take-all (length file - place) (drop place file) (omega (arith, length-drop place file))))
 
   pub ended-part : end < length file
       → givesAt file place count

@@ -14,12 +14,14 @@ use Rattle.bytes.proofs.Every.{either, never-both, and-first, and-second}
 use Rattle.text.specs.Texts.{width, placed}
 use Rattle.text.proofs.Numerals.{width-at-most}
 use Rattle.text.proofs.PlacedTexts.{length-placed, placed-none}
-use Rattle.mailed_lines.specs.Texts.{textsOf, textEnds}
-use Rattle.mailed_lines.specs.Putting.{Takes}
+use Rattle.file_lines.specs.Texts.{textEnds}
+use Rattle.mailed_lines.specs.Texts.{textsOf}
+use Rattle.mending.specs.Putting.{Takes}
 use Rattle.mailed_lines.proofs.CutTexts.{text-begins, text-ends-within}
-use Rattle.mailed_lines.proofs.Puts.{placed-empty, placed-both}
+use Rattle.mending.proofs.Puts.{placed-empty, placed-both}
 use Rattle.mended_lines.specs.Gives.{Gives}
-use Rattle.mended_lines.specs.Giving.{Room, given, outAfter, listAfter}
+use Rattle.mended_lines.specs.Giving.{given, outAfter, listAfter}
+use Rattle.mending.specs.Putting.{Room}
 use Rattle.mended_lines.specs.declared.Places.{Places}
 use Rattle.mended_lines.specs.declared.Given.{Given}
 use Rattle.mending.specs.Mending.{Mended, followed, nothing, mendedFrom}

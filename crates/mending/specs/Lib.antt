@@ -6,3 +6,4 @@ pub mod ReadAgain
 pub mod Unsaid
 pub mod Walking
 pub mod Enough
+pub mod Putting

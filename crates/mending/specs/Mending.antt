@@ -17,7 +17,7 @@ pub record Mended : Type 0 where
 
 -- what the first of the texts gives, where the rest follows it: the last text is the one that no LF ends
 unfoldable pub givesOf : ℕ → List ℕ → List (List ℕ) → Gives
-givesOf count text [] = unendedGives count text
+givesOf count text [] = unendedGives count (suc count) text
 givesOf count text (next ∷ rest) = givesBy (fateOf (unblanked (lineOf text))) count text (joined (next ∷ rest))
 
 -- what a line gives, and then what those after it give, where they are looked at

@@ -8,7 +8,8 @@ use lib.ListN.{drop}
 use Rattle.text.specs.Ascii.{ascii}
 use Rattle.cell_permit.specs.CellPermit.{lineEnd}
 use Rattle.file_lines.specs.Lines.{ecs}
-use Rattle.mailed_lines.specs.Texts.{lf, textsOf, joined}
+use Rattle.file_lines.specs.Texts.{lf}
+use Rattle.mailed_lines.specs.Texts.{textsOf, joined}
 use Rattle.mailed_lines.specs.Mailed.{endsInCr, lineOf, unblanked, isEcs, fateOf}
 use Rattle.mailed_lines.specs.Saying.{said, outSaid}
 use Rattle.mailed_lines.specs.declared.Fate.{Fate}

@@ -3,14 +3,16 @@ use mathlib.Core.Bool.{Bool, true, false, cond, _&&_}
 use mathlib.Core.Path.{_≡_}
 use mathlib.Core.List.{List, [], _∷_, _++_}
 use mathlib.Core.Logic.{_⊎_}
-use Prim.Native.Nat.{ℕ, _+_, _-_, _*_, _/_, _^_, _≤_, _<_}
+use Prim.Native.Nat.{ℕ, zero, suc, _+_, _-_, _*_, _/_, _^_, _≤_, _<_}
 use lib.Dec.{leb, ltb}
 use lib.ListN.{length, getD, take, drop}
+use Rattle.text.specs.Texts.{placed}
 use Rattle.cell_permit.specs.Line.{isLine}
-use Rattle.mailed_lines.specs.Texts.{textsOf, textEnds}
+use Rattle.file_lines.specs.Texts.{textEnds}
+use Rattle.mailed_lines.specs.Texts.{textsOf}
 use Rattle.mended_lines.specs.Gives.{Gives, headerGives}
 use Rattle.mended_lines.specs.declared.Places.{Places}
-use Rattle.mending.specs.Mending.{Mended, givesOf, mendedFrom}
+use Rattle.mending.specs.Mending.{Mended, givesOf, nothing, mendedFrom}
 use Rattle.mending.specs.declared.Answer.{Answer}
 use Rattle.mending.specs.declared.Answer.the-variants as answer
 use Rattle.mending.specs.declared.Lengths.{Lengths}
@@ -83,21 +85,44 @@ pub record CleanAt (file : List ℕ) (place r : ℕ) : Type 0 where
   pub cr : getD file (place + n) 0 ≡ 13
   pub lf : getD file (place + n + 1) 0 ≡ 10
 
+-- so many of them stand one after the other, from a place to an end
+abbrev pub Cleans : List ℕ → ℕ → ℕ → ℕ → Type 0
+Cleans file place zero end = end ≡ place
+Cleans file place (suc k) end = (middle r : ℕ) × (Cleans file place k middle × (CleanAt file middle r × (end ≡ middle + r)))
+
 -- the places of what is put next
 abbrev pub placesOf : Going → Places
 placesOf t = record { file = t .file; list = t .list }
 
--- where the mending stands after a text
-unfoldable pub turned : List ℕ → Going → Going
-turned file t =
-    let g = givesAt file (t .place) (t .count) in
-    record {
-      place = textEnds file (t .place) + 1;
-      count = t .count + 1;
-      file = t .file + length (g .file);
-      list = t .list + length (g .list);
-      more = g .more;
-    }
+-- what is left to be given
+abbrev pub leftOf : List ℕ → Going → Mended
+leftOf file t = cond (t .more) (mendedFrom (t .count) (textsOf (drop (t .place) file))) nothing
+
+-- a text may be looked at: lines are still looked at, no count nor length is large, and the outputs take all that is left, or are empty
+pub record Turnable (file : List ℕ) (t : Going) (out list : List ℕ) : Type 0 where
+  pub more : t .more ≡ true
+  pub within : t .place ≤ length file
+  pub behind : 37 ≤ t .place
+  pub counted : t .count + 33 ≤ t .place
+  pub short : length file < 2 ^ 63
+  pub file-short : t .file < 2 ^ 63
+  pub list-short : t .list < 2 ^ 63
+  pub outputs
+      : ((length out ≡ 0) × (length list ≡ 0))
+      ⊎ ((t .file + length (leftOf file t .file) ≤ length out) × (t .list + length (leftOf file t .list) ≤ length list))
+
+-- one or more texts were given, and the rest is left
+pub record Turned (file : List ℕ) (t r : Going) (out list out₁ list₁ : List ℕ) : Type 0 where
+  pub gave : Mended
+  pub out-is : out₁ ≡ placed (t .file) (gave .file) out
+  pub list-is : list₁ ≡ placed (t .list) (gave .list) list
+  pub file-at : r .file ≡ t .file + length (gave .file)
+  pub list-at : r .list ≡ t .list + length (gave .list)
+  pub file-left : leftOf file t .file ≡ gave .file ++ leftOf file r .file
+  pub list-left : leftOf file t .list ≡ gave .list ++ leftOf file r .list
+  pub inside : r .more ≡ true → r .place ≤ length file
+  pub rises : t .place < r .place
+  pub counted : r .count + t .place ≤ t .count + r .place
 
 -- the texts after the header, which end before a place
 unfoldable pub laterOf : List ℕ → ℕ → Mended

@@ -3,13 +3,14 @@ ghost use mathlib.Core.Path.{_≡_};
 ghost use Prim.Native.Nat.{_≤_};
 ghost use lib.ListN.{length};
 ghost use Rattle.text.specs.Texts.{placed};
-ghost use Rattle.mailed_lines.specs.Putting.{Takes};
+ghost use Rattle.mending.specs.Putting.{Takes};
 ghost use Rattle.mended_lines.specs.Gives.{headerGives};
-ghost use Rattle.mended_lines.specs.Giving.{Room, outAfter, listAfter};
+ghost use Rattle.mended_lines.specs.Giving.{outAfter, listAfter};
+ghost use Rattle.mending.specs.Putting.{Room};
 ghost use Rattle.mending.specs.Mending.{isMended};
 ghost use Rattle.mending.specs.Walking.{textBetween, placesAfter, headerEnds, headerOf, sizeOf};
 ghost use Rattle.mending.specs.declared.header.Header.the-variants.{Three};
-use mailed_lines::texts::text_ends;
+use file_lines::texts::text_ends;
 use mended_lines::Places;
 
 // Where the first three texts end.
@@ -66,8 +67,8 @@ fn put_one(
 {
     let g = mended_lines::put_header_line(&file[from..to], count, out, list, at);
     Places {
-        file: g.file,
-        list: g.list,
+        file: at.file + g.file,
+        list: at.list + g.list,
     }
 }
 

@@ -4,9 +4,9 @@ ghost use mathlib.Core.List.{[]};
 ghost use Prim.Native.Nat.{_+_, _≤_, _<_, _^_};
 ghost use lib.ListN.{length};
 ghost use Rattle.text.specs.Texts.{placed};
-ghost use Rattle.mailed_lines.specs.Texts.{textEnds};
-ghost use Rattle.mended_lines.specs.Giving.{Room, given, outAfter, listAfter};
-ghost use Rattle.mending.specs.Walking.{givesAt, CleanAt, placesOf, turned, laterOf, fits, answered, sizeAfter, Walkable};
+ghost use Rattle.file_lines.specs.Texts.{textEnds};
+ghost use Rattle.mended_lines.specs.Giving.{given, outAfter, listAfter};
+ghost use Rattle.mending.specs.Walking.{givesAt, CleanAt, Cleans, Turnable, Turned, laterOf, fits, answered, sizeAfter, Walkable};
 use super::Answer;
 use super::Lengths;
 use mended_lines::Given;
@@ -34,15 +34,34 @@ fn give(
 ) -> Given
     requires { ⌜ (place ≤ length (now file)) × (end ≡ textEnds (now file) place) ⌝ }
     requires { ⌜ count + 1 < 2 ^ 64 ⌝ }
-    requires { ⌜ Room (givesAt (now file) place count) at (now out) (now list) ⌝ }
-    ensures { λ r. ⌜ (r ≡ given (givesAt (now (file .entry)) place count) at)
+    ensures { λ r. ⌜ (r ≡ given (givesAt (now (file .entry)) place count))
         × ((now (out .exit) ≡ outAfter (givesAt (now (file .entry)) place count) at (now (out .entry)))
         × (now (list .exit) ≡ listAfter (givesAt (now (file .entry)) place count) at (now (list .entry)))) ⌝ }
 {
     if end == file.len() {
-        return mended_lines::put_unended(&file[place..], count, out, list, at);
+        return mended_lines::put_unended(&file[place..], count, count + 1, out, list, at);
     }
     mended_lines::put_ended(&file[place..end], &file[end + 1..], count, out, list, at)
+}
+
+// One text, whatever it is.
+fn turn_any(file: &[u8], out: &mut [u8], list: &mut [u8], t: Going) -> Going
+    requires { ⌜ Turnable (now file) t (now out) (now list) ⌝ }
+    ensures { λ r. ⌜ Turned (now (file .entry)) t r (now (out .entry)) (now (list .entry)) (now (out .exit)) (now (list .exit)) ⌝ }
+{
+    let at = Places {
+        file: t.file,
+        list: t.list,
+    };
+    let end = file_lines::texts::text_ends(file, t.place);
+    let g = give(file, t.place, end, t.count, out, list, at);
+    Going {
+        place: end + 1,
+        count: t.count + 1,
+        file: t.file + g.file,
+        list: t.list + g.list,
+        more: g.more,
+    }
 }
 
 // How long the record is, with its CR LF, that stands at a place and needs no mending; 0 where there is none, or it has a comment.
@@ -58,60 +77,60 @@ fn clean_length(file: &[u8], place: usize) -> usize
     if file.len() - end < 2 {
         return 0;
     }
-    if file[end - 1] == b' ' {
-        return 0;
-    }
     if file[end] != b'\r' {
         return 0;
     }
     if file[end + 1] != b'\n' {
         return 0;
     }
-    n + 2
-}
-
-// One text, whatever it is.
-fn turn_any(file: &[u8], out: &mut [u8], list: &mut [u8], t: Going) -> Going
-    requires { ⌜ (t .place ≤ length (now file)) × (t .count + 1 < 2 ^ 64) ⌝ }
-    requires { ⌜ Room (givesAt (now file) (t .place) (t .count)) (placesOf t) (now out) (now list) ⌝ }
-    ensures { λ r. ⌜ (r ≡ turned (now (file .entry)) t)
-        × ((now (out .exit) ≡ outAfter (givesAt (now (file .entry)) (t .place) (t .count)) (placesOf t) (now (out .entry)))
-        × (now (list .exit) ≡ listAfter (givesAt (now (file .entry)) (t .place) (t .count)) (placesOf t) (now (list .entry)))) ⌝ }
-{
-    let at = Places {
-        file: t.file,
-        list: t.list,
-    };
-    let end = mailed_lines::texts::text_ends(file, t.place);
-    let g = give(file, t.place, end, t.count, out, list, at);
-    Going {
-        place: end + 1,
-        count: t.count + 1,
-        file: g.file,
-        list: g.list,
-        more: g.more,
+    if file[end - 1] == b' ' {
+        return 0;
+    }
+    if line_shape::is_line(&file[place..end]) {
+        n + 2
+    } else {
+        0
     }
 }
 
-// One text. A record that needs no mending is copied as it stands.
+// Records that need no mending, one after the other: how many there are, and where they end.
+struct Run {
+    lines: u64,
+    end: usize,
+}
+
+// Finds those that stand at a place.
+fn clean_run(file: &[u8], place: usize) -> Run
+    requires { ⌜ (place ≤ length (now file)) × (length (now file) < 2 ^ 63) ⌝ }
+    ensures { λ r. ⌜ (r .end ≤ length (now (file .entry))) × Cleans (now (file .entry)) place (r .lines) (r .end) ⌝ }
+{
+    let mut lines: u64 = 0;
+    let mut end = place;
+    let mut n = clean_length(file, end);
+    while n != 0 {
+        lines += 1;
+        end += n;
+        n = clean_length(file, end);
+    }
+    Run { lines, end }
+}
+
+// One text, or as many records that need no mending as stand there, which are copied as they stand.
 fn turn(file: &[u8], out: &mut [u8], list: &mut [u8], t: Going) -> Going
-    requires { ⌜ (t .place ≤ length (now file)) × (t .count + 1 < 2 ^ 64) ⌝ }
-    requires { ⌜ Room (givesAt (now file) (t .place) (t .count)) (placesOf t) (now out) (now list) ⌝ }
-    ensures { λ r. ⌜ (r ≡ turned (now (file .entry)) t)
-        × ((now (out .exit) ≡ outAfter (givesAt (now (file .entry)) (t .place) (t .count)) (placesOf t) (now (out .entry)))
-        × (now (list .exit) ≡ listAfter (givesAt (now (file .entry)) (t .place) (t .count)) (placesOf t) (now (list .entry)))) ⌝ }
+    requires { ⌜ Turnable (now file) t (now out) (now list) ⌝ }
+    ensures { λ r. ⌜ Turned (now (file .entry)) t r (now (out .entry)) (now (list .entry)) (now (out .exit)) (now (list .exit)) ⌝ }
 {
     let place = t.place;
-    let n = clean_length(file, place);
-    if n == 0 {
+    let run = clean_run(file, place);
+    let end = run.end;
+    if run.lines == 0 {
         return turn_any(file, out, list, t);
     }
-    let next = place + n;
-    text::writing::put_text(out, t.file, &file[place..next]);
+    text::writing::put_text(out, t.file, &file[place..end]);
     Going {
-        place: next,
-        count: t.count + 1,
-        file: t.file + n,
+        place: end,
+        count: t.count + run.lines,
+        file: t.file + (end - place),
         list: t.list,
         more: true,
     }
