@@ -3,7 +3,7 @@
 use mathlib.Core.Path.{_≡_, refl, sym, ap, ap₂, subst, _∙_}
 use mathlib.Core.Bool.{Bool, true, false, not, _||_}
 use mathlib.Core.List.{List, [], _∷_, _++_, append-assoc}
-use Prim.Native.Nat.{ℕ, suc, _+_, _-_, _^_, _≤_, _<_}
+use Prim.Native.Nat.{ℕ, zero, suc, _+_, _-_, _^_, _≤_, _<_}
 use native.Mathlib.Omega.{arith}
 use borrow.Author.Tests.{eqb-true, ne-eqb, not-true}
 use lib.Dec.{eqb}
@@ -30,12 +30,9 @@ use Rattle.mailed_lines.proofs.Fates.{line-kept}
 use Rattle.mailed_lines.proofs.Lengths.{blanks-start, other-stays}
 use Rattle.mailed_lines.proofs.Lines.{line-before-cr, cr-at-end, unblanked-start}
 use Rattle.mailed_lines.proofs.SaidTexts.{none-said}
-use Rattle.mended_lines.specs.Gives.{Gives}
-use Rattle.mended_lines.specs.Giving.{outAfter, listAfter}
-use Rattle.mending.specs.Putting.{Room}
-use Rattle.mending.specs.Mending.{givesOf}
-use Rattle.mending.specs.Walking.{firstGives, givesAt, CleanAt, placesOf, turned}
-use Rattle.mending.specs.declared.walking.Going.{Going}
+use Rattle.mending.specs.Mending.{Mended, givesOf, mendedFrom}
+use Rattle.mending.specs.Walking.{firstGives, givesAt, CleanAt, Cleans}
+use Rattle.mending.proofs.TextGives.{mended-turn}
 
 -- a byte that a test lets through is no LF, where the test does not let LF through
 module _ (test : ℕ → Bool) (never : test 10 ≡ false) where
@@ -117,6 +114,10 @@ module _ (line : List ℕ) (shaped : isLine line ≡ true) where
       stretch line (71 + e) (length line - (71 + e)) (71 + e) (length line) 0 (omega arith) (omega (arith, within)) server-no-lf
       (at-no-lf isPrintable refl (length line - (71 + e)) line (71 + e) (good .comment)) in
       sym (ap (allOf notLf) (take-length line)) ∙ all-there notLf (length line) line 0 whole
+
+-- a mended file and its list, by their parts
+abbrev mended : List ℕ → List ℕ → Mended
+mended file list = record { file = file; list = list }
 
 -- bytes without LF, before one
 text-length-before : (t s : List ℕ) → allOf notLf t ≡ true → textLength (t ++ (10 ∷ s)) ≡ length t
@@ -204,52 +205,67 @@ module _ (file : List ℕ) (place r : ℕ) (clean : CleanAt file place r) where
       ∙ ap (λ (l : List (List ℕ)). (line ++ (13 ∷ [])) ∷ l) (never-empty rest))
       ∙ rw (line-before-cr line, plain, line-kept line (clean .shaped), line-before-cr line, plain, cr-at-end line, same-refl line, none-said count)
 
--- a turn over it
-module _ (file : List ℕ) (t : Going) (r : ℕ) (clean : CleanAt file (t .place) r) where
-  pub clean-turned : record { place = t .place + r; count = t .count + 1; file = t .file + r; list = t .list; more = true } ≡ turned file t
-  unfolding turned
-  clean-turned =
-      let same : t .list ≡ t .list + 0 = omega arith in
-      rw (clean-gives file (t .place) r clean (t .count), clean-size file (t .place) r clean, clean-next file (t .place) r clean, ← same)
+  -- and the texts after it follow
+  pub clean-step : (count : ℕ) → mendedFrom count (textsOf (drop place file))
+      ≡ record {
+        file = take r (drop place file) ++ mendedFrom (count + 1) (textsOf (drop (place + r) file)) .file;
+        list = mendedFrom (count + 1) (textsOf (drop (place + r) file)) .list;
+      }
+  clean-step count =
+      mended-turn file place count (omega (arith, clean .within))
+      ∙ rw (clean-gives count, clean-bytes, clean-next)
 
-  pub clean-put : (out : List ℕ) → placed (t .file) (take r (drop (t .place) file)) out ≡ outAfter (givesAt file (t .place) (t .count)) (placesOf t) out
-  clean-put out =
-      rw (clean-gives file (t .place) r clean (t .count))
-      (ap (λ (l : List ℕ). placed (t .file) l out) (clean-bytes file (t .place) r clean))
-
-  pub clean-said : (list : List ℕ) → list ≡ listAfter (givesAt file (t .place) (t .count)) (placesOf t) list
-  clean-said list = rw (clean-gives file (t .place) r clean (t .count)) (sym (placed-none (t .list) list))
-
-  pub clean-fits : (out list : List ℕ) → Room (givesAt file (t .place) (t .count)) (placesOf t) out list → t .file + r < 2 ^ 64
-  clean-fits out list room =
-      omega (
-        arith,
-        room .0 .0,
-        ap (λ (g : Gives). length (g .file)) (clean-gives file (t .place) r clean (t .count)) ∙ clean-size file (t .place) r clean,
-      )
+  pub clean-within : (place < place + r) × (place + r ≤ length file)
+  clean-within = (omega (arith, clean .size), omega (arith, clean .size, clean .within))
 
 -- as the code finds it
-pub clean-found : (file : List ℕ) (place n : ℕ) → isLine (take n (take (length file - place) (drop place file))) ≡ true → place + n + 2 ≤ length file
-    → (getD file (place + n - 1) 0 ≡ 32 → ⊥) → getD file (place + n) 0 ≡ 13 → getD file (place + n + 1) 0 ≡ 10 → CleanAt file place (n + 2)
-clean-found file place n shaped within no-blank cr lf =
-    let all : take (length file - place) (drop place file) ≡ drop place file =
-    take-all (length file - place) (drop place file) (omega (arith, length-drop place file)) in
+pub clean-found : (file : List ℕ) (place n : ℕ) → isLine (take (place + n - place) (drop place file)) ≡ true → place + n + 2 ≤ length file
+    → getD file (place + n) 0 ≡ 13 → getD file (place + n + 1) 0 ≡ 10 → (getD file (place + n - 1) 0 ≡ 32 → ⊥) → CleanAt file place (n + 2)
+clean-found file place n shaped within cr lf no-blank =
+    let size : place + n - place ≡ n = omega arith in
     record {
       n = n;
       size = refl;
       within = within;
-      shaped = sym (ap (λ (l : List ℕ). isLine (take n l)) all) ∙ shaped;
+      shaped = sym (ap (λ (k : ℕ). isLine (take k (drop place file))) size) ∙ shaped;
       no-blank = no-blank;
       cr = cr;
       lf = lf;
     }
 
-pub clean-within : (file : List ℕ) (place r : ℕ) → CleanAt file place r → place + r ≤ length file
-clean-within file place r clean = omega (arith, clean .size, clean .within)
+-- many of them lie within the file, and each has a byte at least
+pub cleans-within : (file : List ℕ) (place k end : ℕ) → place ≤ length file → Cleans file place k end → (place + k ≤ end) × (end ≤ length file)
+cleans-within file place zero end within run = (omega (arith, run), omega (arith, run))
+cleans-within file place (suc k) end within run =
+    let earlier = cleans-within file place k (run .0) within (run .2 .0) in
+    let last = clean-within file (run .0) (run .1) (run .2 .1 .0) in
+    (omega (arith, earlier, last, run .2 .1 .1), omega (arith, last, run .2 .1 .1))
 
--- its part of the file, between two places
-pub clean-part : (file : List ℕ) (t : Going) (r : ℕ) (out : List ℕ)
-    → placed (t .file) (take (t .place + r - t .place) (drop (t .place) file)) out ≡ placed (t .file) (take r (drop (t .place) file)) out
-clean-part file t r out =
-    let size : t .place + r - t .place ≡ r = omega arith in
-    ap (λ (k : ℕ). placed (t .file) (take k (drop (t .place) file)) out) size
+-- they give themselves, and then the texts after them follow
+pub cleans-left : (file : List ℕ) (place k end count : ℕ) → place ≤ length file → Cleans file place k end → mendedFrom count (textsOf (drop place file))
+    ≡ record {
+      file = take (end - place) (drop place file) ++ mendedFrom (count + k) (textsOf (drop end file)) .file;
+      list = mendedFrom (count + k) (textsOf (drop end file)) .list;
+    }
+cleans-left file place zero end count within run =
+    let none : end - place ≡ 0 = omega (arith, run) in
+    let same : count + 0 ≡ count = omega arith in
+    rw (none, run, same)
+cleans-left file place (suc k) end count within run =
+    let middle = run .0 in
+    let r = run .1 in
+    let earlier = cleans-within file place k middle within (run .2 .0) in
+    let last = run .2 .1 .0 in
+    let one : count + k + 1 ≡ count + suc k = omega arith in
+    let size : middle - place + r ≡ end - place = omega (arith, run .2 .1 .1, earlier) in
+    let place-back : place + (middle - place) ≡ middle = omega (arith, earlier) in
+    let bytes : take (middle - place) (drop place file) ++ take r (drop middle file) ≡ take (end - place) (drop place file) =
+    ap (λ (l : List ℕ). take (middle - place) (drop place file) ++ take r l)
+    (ap (λ (n : ℕ). drop n file) (sym place-back) ∙ sym (drop-drop (middle - place) place file))
+    ∙ sym (take-add (middle - place) r (drop place file))
+    ∙ ap (λ (n : ℕ). take n (drop place file)) size in
+    cleans-left file place k middle count within (run .2 .0)
+    ∙ rw (clean-step file middle r last (count + k), one, ← run .2 .1 .1)
+    (ap (λ (l : List ℕ). mended l (mendedFrom (count + suc k) (textsOf (drop end file)) .list))
+    (sym (append-assoc (take (middle - place) (drop place file)) (take r (drop middle file)) (mendedFrom (count + suc k) (textsOf (drop end file)) .file))
+    ∙ ap (λ (l : List ℕ). l ++ mendedFrom (count + suc k) (textsOf (drop end file)) .file) bytes))

@@ -2,10 +2,12 @@ pub mod Again
 pub mod GoodHeaders
 pub mod ReadAgain
 pub mod Unsaid
+pub mod Puts
 pub mod HeaderTexts
 pub mod HeaderPuts
 pub mod TextGives
 pub mod CleanLines
+pub mod Turns
 pub mod Walks
 pub mod Rooms
 pub mod Mends
