@@ -3,3 +3,4 @@ pub mod Words
 pub mod PartEnds
 pub mod DatedFiles
 pub mod Walks
+pub mod TextEnds

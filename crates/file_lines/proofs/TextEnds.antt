@@ -16,7 +16,7 @@ use Rattle.bytes.specs.Places.{numberAt}
 use Rattle.bytes.proofs.Every.{either, all-first, all-rest}
 use Rattle.bytes.proofs.Places.{bytes-at}
 use Rattle.text.specs.Texts.{part}
-use Rattle.mailed_lines.specs.Texts.{textLength, textEnds}
+use Rattle.file_lines.specs.Texts.{textLength, textEnds}
 
 by-head : (i c : ℕ) (s : List ℕ) → i + textLength (c ∷ s) ≡ cond (eqb c 10) i (i + 1 + textLength s)
 unfolding textLength
@@ -58,3 +58,10 @@ module _ (file : List ℕ) where
   pub word-passed : Below 256 file → (i : ℕ) → i + 8 ≤ length file → allOf (ltb 13) (bytesOf 8 (numberAt 8 file i)) ≡ true
       → textEnds file i ≡ textEnds file (i + 8)
   word-passed below i within all = passes 8 i within (sym (ap (allOf (ltb 13)) (bytes-at 8 file i below within)) ∙ all)
+
+-- beyond the file none begins
+pub ends-beyond : (file : List ℕ) (place : ℕ) → length file < place → textEnds file place ≡ place
+unfolding textEnds textLength
+ends-beyond file place past =
+    let h : length file ≤ place = omega arith in
+    rw (drop-of-length-le file h) (omega arith)

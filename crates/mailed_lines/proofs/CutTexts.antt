@@ -13,7 +13,8 @@ use lib.Seq.{drop-drop}
 use Rattle.bytes.specs.Every.{allOf}
 use Rattle.bytes.proofs.Every.{either, all-first, all-rest, all-more}
 use Rattle.text.specs.Texts.{onto}
-use Rattle.mailed_lines.specs.Texts.{textsOf, joined, textLength, textEnds}
+use Rattle.file_lines.specs.Texts.{textLength, textEnds}
+use Rattle.mailed_lines.specs.Texts.{textsOf, joined}
 
 -- a byte is no LF
 abbrev pub notLf : ℕ → Bool

@@ -1,4 +1,4 @@
--- `mailed_lines::texts::pass_words` meets its contract. The invariant is what it promises of the place that it hands back.
+-- `file_lines::texts::pass_words` meets its contract. The invariant is what it promises of the place that it hands back.
 -- Assumes nothing.
 use mathlib.Core.Path.{_≡_, sym, ap, _∙_}
 use mathlib.Core.Bool.{true}
@@ -9,11 +9,11 @@ use lib.Dec.{ltb}
 use lib.ListN.{length}
 use Rattle.bytes.specs.Numbers.{bytesOf}
 use Rattle.bytes.specs.Every.{allOf}
-use Rattle.mailed_lines.specs.Texts.{textEnds}
-use Rattle.mailed_lines.proofs.TextEnds.{word-passed}
+use Rattle.file_lines.specs.Texts.{textEnds}
+use Rattle.file_lines.proofs.TextEnds.{word-passed}
 use borrow.Author.Needs.{needs}
-use Rattle.mailed_lines.proofs.texts.pass_words.Statement.{statement}
-use Rattle.mailed_lines.proofs.texts.pass_words.Tie as tie
+use Rattle.file_lines.proofs.texts.pass_words.Statement.{statement}
+use Rattle.file_lines.proofs.texts.pass_words.Tie as tie
 
 abbrev Inv-loop : tie.InvT-loop
 Inv-loop file place i₀ i = (i ≤ length file) × (textEnds file i ≡ textEnds file place)

@@ -1,14 +1,14 @@
--- `mailed_lines::texts::text_ends` meets its contract. The invariant: the text that begins at i ends where the one at the place ends.
+-- `file_lines::texts::text_ends` meets its contract. The invariant: the text that begins at i ends where the one at the place ends.
 -- Assumes nothing.
 use mathlib.Core.Path.{_≡_, sym, _∙_}
 use Prim.Native.Nat.{_-_, _≤_}
 use native.Mathlib.Omega.{arith}
 use lib.ListN.{length}
-use Rattle.mailed_lines.specs.Texts.{textEnds}
-use Rattle.mailed_lines.proofs.TextEnds.{ends-here, goes-on, ends-with-file}
+use Rattle.file_lines.specs.Texts.{textEnds}
+use Rattle.file_lines.proofs.TextEnds.{ends-beyond, ends-here, goes-on, ends-with-file}
 use borrow.Author.Needs.{needs}
-use Rattle.mailed_lines.proofs.texts.text_ends.Statement.{statement}
-use Rattle.mailed_lines.proofs.texts.text_ends.Tie as tie
+use Rattle.file_lines.proofs.texts.text_ends.Statement.{statement}
+use Rattle.file_lines.proofs.texts.text_ends.Tie as tie
 
 abbrev Inv-loop : tie.InvT-loop
 Inv-loop file place i₀ i = (i ≤ length file) × (textEnds file i ≡ textEnds file place)
@@ -16,20 +16,23 @@ Inv-loop file place i₀ i = (i ≤ length file) × (textEnds file i ≡ textEnd
 abbrev μ-loop : tie.MeasureT-loop
 μ-loop file place i₀ i = length file - i
 
+returns : tie.Need-returns Inv-loop μ-loop
+returns c = sym (ends-beyond (c .before .before .args .file .now) (c .before .before .args .place) (c .if1 .taken))
+
 pass-words-requires : tie.Need-pass-words-requires Inv-loop μ-loop
 pass-words-requires c κs = search needs
 
 loop-holds : tie.Need-loop-holds Inv-loop μ-loop
 loop-holds c = c .pass-words .ensures
 
-shared-slice-read-if1 : tie.Need-shared-slice-read-if1 Inv-loop μ-loop
-shared-slice-read-if1 c = search needs
+shared-slice-read-if2 : tie.Need-shared-slice-read-if2 Inv-loop μ-loop
+shared-slice-read-if2 c = search needs
 
-returns : tie.Need-returns Inv-loop μ-loop
-returns c =
+returns-2 : tie.Need-returns-2 Inv-loop μ-loop
+returns-2 c =
     let test = c .before .before in
     let now = test .before .loop in
-    sym (ends-here (test .before .before .before .before .args .file .now) (now .i) (test .loop-test .taken) (c .if1 .taken)) ∙ now .inv .1
+    sym (ends-here (test .before .before .before .before .before .args .file .now) (now .i) (test .loop-test .taken) (c .if2 .taken)) ∙ now .inv .1
 
 add-i : tie.Need-add-i Inv-loop μ-loop
 add-i c = search needs
@@ -42,13 +45,13 @@ loop-again c =
     let test = c .before .before in
     let now = test .before .loop in (
       omega arith,
-      sym (goes-on (test .before .before .before .before .args .file .now) (now .i) (test .loop-test .taken) (c .if1 .left)) ∙ now .inv .1,
+      sym (goes-on (test .before .before .before .before .before .args .file .now) (now .i) (test .loop-test .taken) (c .if2 .left)) ∙ now .inv .1,
     )
 
-returns-2 : tie.Need-returns-2 Inv-loop μ-loop
-returns-2 c =
+returns-3 : tie.Need-returns-3 Inv-loop μ-loop
+returns-3 c =
     let now = c .before .loop in
-    sym (ends-with-file (c .before .before .before .before .args .file .now) (now .i) (c .loop-test .left)) ∙ now .inv .1
+    sym (ends-with-file (c .before .before .before .before .before .args .file .now) (now .i) (c .loop-test .left)) ∙ now .inv .1
 
 pub text-ends-spec : {M : Type 1} → statement M
 text-ends-spec =
@@ -56,11 +59,12 @@ text-ends-spec =
     (tie.spec
     Inv-loop
     μ-loop
+    returns
     pass-words-requires
     loop-holds
-    shared-slice-read-if1
-    returns
+    shared-slice-read-if2
+    returns-2
     add-i
     loop-less
     loop-again
-    returns-2)
+    returns-3)

@@ -1,42 +1,47 @@
--- `mailed_lines::saying::put_counted` meets its contract: the count, and what follows it.
+-- `mailed_lines::saying::put_counted` meets its contract: the count and what follows it, where they lie within.
 -- Assumes nothing.
-use Prim.Native.Nat.{_+_}
+use mathlib.Core.Path.{_≡_, sym, _∙_}
+use Prim.Native.Nat.{_+_, _≤_}
 use native.Mathlib.Omega.{arith}
+use lib.ListN.{length}
+use borrow.Author.Tests.{leb-true}
 use borrow.Author.Needs.{needs}
-use lib.ListN.{length, length-append}
-use Rattle.text.specs.Texts.{numeral}
-use Rattle.text.proofs.Numerals.{numeral-length}
-use Rattle.mailed_lines.proofs.Puts.{put-both}
-use Rattle.mailed_lines.proofs.PutLines.{numeral-put}
+use Rattle.mailed_lines.proofs.PutLines.{width-short, not-put, counted-size, counted-put}
 use Rattle.mailed_lines.proofs.saying.put_counted.Statement.{statement}
 use Rattle.mailed_lines.proofs.saying.put_counted.Tie as tie
 
+-- they lie within
+inside : (fits : tie.Then1)
+    → let counted = fits .before .before .before in
+    let args = counted .before .before .before .args in
+    args .at + (counted .width .result + length (args .rest .now)) ≤ length (args .list .now)
+inside fits = leb-true _ _ (sym (fits .before .lies-within .ensures) ∙ fits .if1 .taken)
+
 width-requires : tie.Need-width-requires
 width-requires c κs = search needs
+
+add-size : tie.Need-add-size
+add-size c =
+    let start = c .before .before .before in
+    let w = width-short (start .args .count) (start .fits .count .fits) in
+    let e = c .width .ensures in
+    let room = start .good .1 .1 .1 .0 in
+    record { fits = omega (arith, w, e, room) }
+
+lies-within-requires : tie.Need-lies-within-requires
+lies-within-requires c κs = search needs
 
 put-decimal-requires : tie.Need-put-decimal-requires
 put-decimal-requires c κs = search needs
 
 add-put-text : tie.Need-add-put-text
 add-put-text c =
-    let counted = c .before .before .before .before .before in
-    let start = counted .before .before .before in
-    omega (arith, start .pre .0, counted .width .ensures, numeral-length (start .args .count), length-append (numeral (start .args .count)) (start .args .rest .now))
+    let fits = c .before .before .before .before .before in
+    let counted = fits .before .before .before in
+    record { fits = omega (arith, inside fits, counted .before .before .before .good .0) }
 
 put-text-requires : tie.Need-put-text-requires
 put-text-requires c κs = search needs
-
-add-result : tie.Need-add-result
-add-result c =
-    let counted = c .before .before .before .before .before .before .before .before in
-    let start = counted .before .before .before in
-    omega (arith, start .pre .0, counted .width .ensures, numeral-length (start .args .count), length-append (numeral (start .args .count)) (start .args .rest .now))
-
-add-result-2 : tie.Need-add-result-2
-add-result-2 c =
-    let counted = c .before .before .before .before .before .before .before .before in
-    let start = counted .before .before .before in
-    omega (arith, start .pre .0, counted .width .ensures, numeral-length (start .args .count), length-append (numeral (start .args .count)) (start .args .rest .now))
 
 same-length : tie.Need-same-length
 same-length c = search needs
@@ -45,25 +50,38 @@ returns : tie.Need-returns
 returns c =
     let text = c .before .before in
     let decimal = text .before .before .before .before in
-    let counted = decimal .before .before in
+    let fits = decimal .before .before in
+    let counted = fits .before .before .before in
     let start = counted .before .before .before in
-    let at = start .args .at in
-    let out = start .args .list .now in
-    let n = counted .width .result in
-    put-both at (numeral (start .args .count)) (start .args .rest .now) out (start .pre)
-    (at + n) (at + n + length (start .args .rest .now)) (decimal .put-decimal .last .0) (text .put-text .last .0)
-    (numeral-put at n (start .args .count) out (decimal .put-decimal .last .0) (counted .width .ensures) (decimal .put-decimal .ensures))
-    (omega arith, text .put-text .ensures)
+    let args = start .args in (
+      counted-size (args .at) (counted .width .result) (args .count) (args .rest .now) (args .list .now) (counted .width .ensures),
+      counted-put (args .at) (counted .width .result) (args .count) (args .rest .now) (args .list .now) (counted .width .ensures)
+          (sym (fits .before .lies-within .ensures) ∙ fits .if1 .taken)
+          (decimal .put-decimal .last .0) (text .put-text .last .0) (decimal .put-decimal .ensures) (text .put-text .ensures),
+    )
+
+same-length-2 : tie.Need-same-length-2
+same-length-2 c = search needs
+
+returns-2 : tie.Need-returns-2
+returns-2 c =
+    let counted = c .before .before .before in
+    let start = counted .before .before .before in
+    let args = start .args in
+    let size = counted-size (args .at) (counted .width .result) (args .count) (args .rest .now) (args .list .now) (counted .width .ensures) in
+    (size, not-put (args .at) _ _ (args .list .now) size (sym (c .before .lies-within .ensures) ∙ c .if1 .left))
 
 pub put-counted-spec : {M : Type 1} → statement M
 put-counted-spec =
     tie.close
     (tie.spec
     width-requires
+    add-size
+    lies-within-requires
     put-decimal-requires
     add-put-text
     put-text-requires
-    add-result
-    add-result-2
     same-length
-    returns)
+    returns
+    same-length-2
+    returns-2)

@@ -1,30 +1,28 @@
 -- `mailed_lines::saying::put_if` meets its contract.
 -- Assumes nothing.
 use borrow.Author.Needs.{needs}
-use Rattle.mailed_lines.proofs.PutLines.{takes-counted, put-fault, put-no-fault}
+use Rattle.mailed_lines.proofs.PutLines.{fault-put, no-fault-put}
 use Rattle.mailed_lines.proofs.saying.put_if.Statement.{statement}
 use Rattle.mailed_lines.proofs.saying.put_if.Tie as tie
 
 put-counted-requires : tie.Need-put-counted-requires
-put-counted-requires c κs =
-    let start = c .before .before .before .before in
-    takes-counted (start .args .at) (start .args .fault) (start .args .count) (start .args .rest .now) (start .args .list .now) (c .before .if1 .taken) (start .pre)
+put-counted-requires c κs = search needs
 
 same-length : tie.Need-same-length
 same-length c = search needs
 
 returns : tie.Need-returns
 returns c =
-    let counted = c .before .before in
-    let fault = counted .before .before in
-    let start = fault .before .before .before in
-    put-fault (start .args .at) (start .args .fault) (start .args .count) (start .args .rest .now) (start .args .list .now) (fault .if1 .taken)
-    (counted .put-counted .result) (counted .put-counted .last .0) (counted .put-counted .ensures)
+    let put = c .before .before in
+    let on = put .before .before in
+    let args = on .before .before .before .args in
+    fault-put (args .at) (args .fault) (args .count) (args .rest .now) (args .list .now) (on .if1 .taken)
+    (put .put-counted .result) (put .put-counted .last .0) (put .put-counted .ensures)
 
 returns-2 : tie.Need-returns-2
 returns-2 c =
-    let start = c .before .before .before in
-    put-no-fault (start .args .at) (start .args .fault) (start .args .count) (start .args .rest .now) (start .args .list .now) (c .if1 .left)
+    let args = c .before .before .before .args in
+    no-fault-put (args .at) (args .fault) (args .count) (args .rest .now) (args .list .now) (c .if1 .left)
 
 pub put-if-spec : {M : Type 1} → statement M
 put-if-spec = tie.close (tie.spec put-counted-requires same-length returns returns-2)
