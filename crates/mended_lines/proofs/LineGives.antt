@@ -11,7 +11,7 @@ use Rattle.text.specs.Ascii.{ascii}
 use Rattle.text.specs.Characters.{raisedText}
 use Rattle.text.specs.Texts.{sameText, numeral}
 use Rattle.text.proofs.SameTexts.{same-refl}
-use Rattle.text.proofs.Numerals.{width-at-most, numeral-length}
+use Rattle.text.proofs.Numerals.{numeral-length}
 use Rattle.cell_permit.specs.CellPermit.{lineEnd}
 use Rattle.file_lines.specs.Lines.{ecs}
 use Rattle.mailed_lines.specs.Mailed.{lineOf, unblanked, isEcs, fateOf}
@@ -20,6 +20,7 @@ use Rattle.mailed_lines.specs.declared.Fate.{Fate}
 use Rattle.mailed_lines.specs.declared.Fate.the-variants.{Kept, Last, Out}
 use Rattle.mailed_lines.proofs.Fates.{ecs-raised}
 use Rattle.mailed_lines.proofs.SaidTexts.{out-length}
+use Rattle.mailed_lines.proofs.PutLines.{width-short}
 use Rattle.mended_lines.specs.Gives.{Gives, headerGives, givesBy, unendedGives}
 use Rattle.mended_lines.specs.Giving.{lastGives, addedSaid}
 use Rattle.mended_lines.proofs.MeasuredLines.{Measured, line-taken, left-taken, mended-taken, faults-shown, all-faults-shown}
@@ -104,8 +105,8 @@ added-fits count next line count-fits next-fits line-fits =
       out-length count line,
       length-append (numeral next) (ascii " ECS\n"),
       numeral-length next,
-      width-at-most count 20 (omega arith) (omega arith),
-      width-at-most next 20 (omega arith) (omega arith),
+      width-short count count-fits,
+      width-short next next-fits,
     )
 
 -- what is not :ECS

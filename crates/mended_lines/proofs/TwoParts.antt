@@ -5,13 +5,14 @@ use mathlib.Core.Bool.{Bool, true, false}
 use mathlib.Core.List.{List, _++_}
 use Prim.Native.Nat.{ℕ, _+_, _≤_}
 use native.Mathlib.Omega.{arith}
-use borrow.Author.Tests.{leb-true, leb-false}
+use borrow.Author.Tests.{leb-true}
 use lib.Dec.{leb}
 use lib.ListN.{length, length-append, length-map}
 use Rattle.text.specs.Characters.{raised}
 use Rattle.text.specs.Texts.{placed}
-use Rattle.text.proofs.PlacedTexts.{placed-beyond, placed-next}
+use Rattle.text.proofs.PlacedTexts.{placed-next}
 use Rattle.cell_permit.specs.CellPermit.{lineEnd}
+use Rattle.mailed_lines.proofs.PutLines.{not-put}
 use Rattle.mended_lines.specs.Giving.{cased}
 
 -- a text is put at a place, and has so many bytes
@@ -37,7 +38,7 @@ module _ (at : ℕ) (t u out : List ℕ) (size : ℕ) (whole : size ≡ length (
 
   -- it does not
   pub none-put : told ≡ false → Put at (t ++ u) out size out
-  none-put beyond = (whole, sym (placed-beyond at (t ++ u) out (omega (arith, leb-false (at + size) (length out) (sym is ∙ beyond), whole))))
+  none-put beyond = (whole, not-put at size (t ++ u) out whole (sym is ∙ beyond))
 
 -- a text is as long with its letters raised
 pub cased-length : (raise : Bool) (text : List ℕ) → length text ≡ length (cased raise text)

@@ -2,7 +2,7 @@
 -- Assumes nothing.
 use mathlib.Core.Path.{_≡_, sym, ap₂, _∙_}
 use mathlib.Core.List.{List, _++_}
-use Prim.Native.Nat.{ℕ, _+_}
+use Prim.Native.Nat.{ℕ, _+_, _^_, _<_}
 use native.Mathlib.Omega.{arith}
 use borrow.Author.Needs.{needs}
 use lib.ListN.{length, length-append}
@@ -79,12 +79,11 @@ add-size c =
     let out = last .before .before .before in
     let start = out .before .before .before .before .before .before in
     let args = start .args in
-    omega (
-      arith,
-      out .put-out .ensures .0,
-      last .put-counted2 .ensures .0,
-      added-fits (args .count) (args .next) (args .line .now) (start .fits .count) (start .fits .next) ?,
-    )
+    let line-fits : length (args .line .now) < 2 ^ 63 = omega (arith, start .good .1 .1 .1 .1 .0) in
+    let all = added-fits (args .count) (args .next) (args .line .now) (start .fits .count .fits) (start .fits .next .fits) line-fits in
+    let first = out .put-out .ensures .0 in
+    let next = last .put-counted2 .ensures .0 in
+    record { fits = omega (arith, all, first, next) }
 
 lies-within-requires : tie.Need-lies-within-requires
 lies-within-requires c κs = search needs
@@ -97,12 +96,10 @@ add-put-counted c =
     let test = c .before .before .before .before .before in
     let within = test .before in
     let args = start within .args in
-    omega (
-      arith,
-      out within .put-out .ensures .0,
-      both-fit (args .at) (first within) (next within) (args .list .now) (size within) (whole within)
-          (within .lies-within .result) (within .lies-within .ensures) (test .if2 .taken),
-    )
+    let fits =
+    both-fit (args .at) (first within) (next within) (args .list .now) (size within) (whole within)
+    (within .lies-within .result) (within .lies-within .ensures) (test .if2 .taken) in
+    record { fits = omega (arith, fits, out within .put-out .ensures .0, start within .good .0) }
 
 put-counted-requires-3 : tie.Need-put-counted-requires-3
 put-counted-requires-3 c κs = search needs

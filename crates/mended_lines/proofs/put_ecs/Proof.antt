@@ -1,8 +1,8 @@
 -- `mended_lines::put_ecs` meets its contract: :ECS and CR LF, and what stands after them.
 -- Assumes nothing.
-use mathlib.Core.Path.{_≡_, sym, refl}
-use mathlib.Core.List.{List, _++_}
-use Prim.Native.Nat.{ℕ, _+_}
+use mathlib.Core.Path.{refl, sym}
+use mathlib.Core.List.{_++_}
+use Prim.Native.Nat.{_+_}
 use native.Mathlib.Omega.{arith}
 use borrow.Author.Needs.{needs}
 use lib.ListN.{length, length-append}

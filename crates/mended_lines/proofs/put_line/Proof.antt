@@ -1,13 +1,12 @@
 -- `mended_lines::put_line` meets its contract: the line, which is as long with its letters raised, and CR LF.
 -- Assumes nothing.
-use mathlib.Core.List.{List, _++_}
-use Prim.Native.Nat.{ℕ, _+_}
+use Prim.Native.Nat.{_+_}
 use native.Mathlib.Omega.{arith}
 use borrow.Author.Needs.{needs}
 use lib.ListN.{length}
 use Rattle.cell_permit.specs.CellPermit.{lineEnd}
 use Rattle.mended_lines.specs.Giving.{cased}
-use Rattle.mended_lines.proofs.TwoParts.{Put, both-fit, both-put, none-put, cased-length, line-size}
+use Rattle.mended_lines.proofs.TwoParts.{both-fit, both-put, none-put, cased-length, line-size}
 use Rattle.mended_lines.proofs.put_line.Statement.{statement}
 use Rattle.mended_lines.proofs.put_line.Tie as tie
 
