@@ -1,4 +1,4 @@
-pub mod LinePuts
+pub mod TwoParts
 pub mod BothPut
 pub mod MeasuredLines
 pub mod LineGives

@@ -3,15 +3,15 @@
 use mathlib.Core.Path.{_≡_, refl, sym, ap, ap₂, _∙_}
 use mathlib.Core.Bool.{Bool, true, false, not}
 use mathlib.Core.List.{List, [], _∷_, _++_}
-use Prim.Native.Nat.{ℕ, _+_}
-use native.Mathlib.Numerals.{add-one}
+use Prim.Native.Nat.{ℕ, _+_, _^_, _<_}
 use native.Mathlib.Omega.{arith}
 use lib.Dec.{eqb, ltb}
-use lib.ListN.{length, take}
+use lib.ListN.{length, take, length-append}
 use Rattle.text.specs.Ascii.{ascii}
 use Rattle.text.specs.Characters.{raisedText}
 use Rattle.text.specs.Texts.{sameText, numeral}
 use Rattle.text.proofs.SameTexts.{same-refl}
+use Rattle.text.proofs.Numerals.{numeral-length}
 use Rattle.cell_permit.specs.CellPermit.{lineEnd}
 use Rattle.file_lines.specs.Lines.{ecs}
 use Rattle.mailed_lines.specs.Mailed.{lineOf, unblanked, isEcs, fateOf}
@@ -19,6 +19,8 @@ use Rattle.mailed_lines.specs.Saying.{said, faultsSaid, outSaid}
 use Rattle.mailed_lines.specs.declared.Fate.{Fate}
 use Rattle.mailed_lines.specs.declared.Fate.the-variants.{Kept, Last, Out}
 use Rattle.mailed_lines.proofs.Fates.{ecs-raised}
+use Rattle.mailed_lines.proofs.SaidTexts.{out-length}
+use Rattle.mailed_lines.proofs.PutLines.{width-short}
 use Rattle.mended_lines.specs.Gives.{Gives, headerGives, givesBy, unendedGives}
 use Rattle.mended_lines.specs.Giving.{lastGives, addedSaid}
 use Rattle.mended_lines.proofs.MeasuredLines.{Measured, line-taken, left-taken, mended-taken, faults-shown, all-faults-shown}
@@ -82,33 +84,46 @@ pub ecs-shown : (line : List ℕ) (k : ℕ) → k ≡ length (unblanked line) �
     → isEcs (unblanked line) ≡ test
 ecs-shown line k left told test is found = ap isEcs (sym (left-taken line k left)) ∙ sym is ∙ found
 
-module _ (count : ℕ) where
-  -- the list's lines where :ECS is added: nothing was there
-  pub none-said : (line : List ℕ) → length line ≡ 0 → addedSaid count line ≡ numeral count ++ ascii " ECS\n"
-  unfolding addedSaid said
-  none-said [] none = refl
-  none-said (c ∷ line) none = absurd (omega arith)
+-- the list's lines where :ECS is added: nothing was there
+pub none-said : (count next : ℕ) (line : List ℕ) → length line ≡ 0 → addedSaid count next line ≡ numeral count ++ ascii " ECS\n"
+unfolding addedSaid said
+none-said count next [] none = refl
+none-said count next (c ∷ line) none = absurd (omega arith)
 
-  -- or a line that is left out
-  pub some-said : (line : List ℕ) → (length line ≡ 0 → ⊥) → addedSaid count line ≡ outSaid count line ++ (numeral (count + 1) ++ ascii " ECS\n")
-  unfolding addedSaid said
-  some-said [] some = absurd (some refl)
-  some-said (c ∷ line) some = rw add-one
+-- or a line that is left out
+pub some-said : (count next : ℕ) (line : List ℕ) → (length line ≡ 0 → ⊥) → addedSaid count next line ≡ outSaid count line ++ (numeral next ++ ascii " ECS\n")
+unfolding addedSaid said
+some-said count next [] some = absurd (some refl)
+some-said count next (c ∷ line) some = refl
 
-  -- what is not :ECS
-  pub added-gives : (line : List ℕ) → isEcs (unblanked line) ≡ false → unendedGives count line ≡ gives (ecs ++ lineEnd) (addedSaid count line) false
-  unfolding unendedGives addedSaid
-  added-gives [] other = refl
-  added-gives (c ∷ line) other = rw other
+-- how long both are, for counts of 64 bits and a line of a slice: a number of the machine
+pub added-fits : (count next : ℕ) (line : List ℕ) → count < 2 ^ 64 → next < 2 ^ 64 → length line < 2 ^ 63
+    → length (outSaid count line) + length (numeral next ++ ascii " ECS\n") < 2 ^ 64
+added-fits count next line count-fits next-fits line-fits =
+    omega (
+      arith,
+      out-length count line,
+      length-append (numeral next) (ascii " ECS\n"),
+      numeral-length next,
+      width-short count count-fits,
+      width-short next next-fits,
+    )
 
-  -- :ECS
-  pub ecs-gives : (line : List ℕ) (n k : ℕ) → n ≡ length line → k ≡ length (unblanked line) → isEcs (unblanked line) ≡ true
-      → (raised : Bool) → raised ≡ sameText (raisedText (take k line)) (take k line)
-      → unendedGives count line ≡ gives ecs (faultsSaid false (ltb k n) (not raised) count) false
-  unfolding unendedGives isEcs unblanked sameText
-  ecs-gives [] n k all left ended raised told = cc
-  ecs-gives (c ∷ line) n k all left ended raised told =
-      rw ended
-      (ap (λ (l : List ℕ). gives ecs l false)
-      (faults-shown (c ∷ line) n k all left false (not raised) count ecs
-      (ecs-case-shown (unblanked (c ∷ line)) (take k (c ∷ line)) (left-taken (c ∷ line) k left) raised told ended)))
+-- what is not :ECS
+pub added-gives : (count next : ℕ) (line : List ℕ) → isEcs (unblanked line) ≡ false
+    → unendedGives count next line ≡ gives (ecs ++ lineEnd) (addedSaid count next line) false
+unfolding unendedGives addedSaid
+added-gives count next [] other = refl
+added-gives count next (c ∷ line) other = rw other
+
+-- :ECS
+pub ecs-gives : (count next : ℕ) (line : List ℕ) (n k : ℕ) → n ≡ length line → k ≡ length (unblanked line) → isEcs (unblanked line) ≡ true
+    → (raised : Bool) → raised ≡ sameText (raisedText (take k line)) (take k line)
+    → unendedGives count next line ≡ gives ecs (faultsSaid false (ltb k n) (not raised) count) false
+unfolding unendedGives isEcs unblanked sameText
+ecs-gives count next [] n k all left ended raised told = cc
+ecs-gives count next (c ∷ line) n k all left ended raised told =
+    rw ended
+    (ap (λ (l : List ℕ). gives ecs l false)
+    (faults-shown (c ∷ line) n k all left false (not raised) count ecs
+    (ecs-case-shown (unblanked (c ∷ line)) (take k (c ∷ line)) (left-taken (c ∷ line) k left) raised told ended)))

@@ -1,16 +1,16 @@
 -- `mended_lines::put_ended` meets its contract, by what becomes of the line.
 -- Assumes nothing.
-use mathlib.Core.Path.{_≡_, ap, _∙_}
+use mathlib.Core.Path.{_≡_, refl, sym, ap, _∙_}
 use mathlib.Core.List.{List}
 use Prim.Native.Nat.{ℕ}
 use borrow.Author.Needs.{needs}
+use Rattle.text.proofs.PlacedTexts.{placed-none}
 use Rattle.mailed_lines.specs.Mailed.{lineOf, unblanked, fateOf}
 use Rattle.mailed_lines.specs.declared.Fate.{Fate}
 use Rattle.mailed_lines.specs.declared.Fate.the-variants.{Kept, Last, Out}
 use Rattle.mailed_lines.proofs.Fates.{last-is}
-use Rattle.mailed_lines.proofs.Puts.{put-nothing}
 use Rattle.mended_lines.specs.Gives.{Gives, givesBy}
-use Rattle.mended_lines.proofs.BothPut.{same-room, same-gave, gave-both}
+use Rattle.mended_lines.proofs.BothPut.{same-gave, gave-both}
 use Rattle.mended_lines.proofs.MeasuredLines.{Measured, line-counted, measured, mended-counted}
 use Rattle.mended_lines.proofs.LineGives.{fate-shown, kept-gives, last-gives, out-gives}
 use Rattle.mended_lines.proofs.put_ended.Statement.{statement}
@@ -72,44 +72,22 @@ enum-told : tie.Need-enum-told
 enum-told c = search needs
 
 put-line-requires : tie.Need-put-line-requires
-put-line-requires c κs =
-    let told = c .before .before .before in
-    let args = start told .args in
-    let m = left told in
-    same-room _ _ (same told Kept (c .before .enum-told .given .1) _ (kept-gives (args .count) (text m) (n m) (k m) (sizes m) (args .after .now)))
-    (args .at) (args .out .now) (args .list .now) (start told .pre) .0
+put-line-requires c κs = search needs
 
 put-faults-requires : tie.Need-put-faults-requires
-put-faults-requires c κs =
-    let kept = c .before .before .before .before .before in
-    let told = kept .before .before in
-    let args = start told .args in
-    let m = left told in
-    same-room _ _ (same told Kept (kept .enum-told .given .1) _ (kept-gives (args .count) (text m) (n m) (k m) (sizes m) (args .after .now)))
-    (args .at) (args .out .now) (args .list .now) (start told .pre) .1
+put-faults-requires c κs = search needs
 
 enum-told-2 : tie.Need-enum-told-2
 enum-told-2 c = search needs
 
 put-last-requires : tie.Need-put-last-requires
-put-last-requires c κs =
-    let told = c .before .before .before .before in
-    let args = start told .args in
-    let m = left told in
-    let found = c .before .before .enum-told2 .given .1 in
-    same-room _ _ (same told Last found _ (last-gives (args .count) (text m) (n m) (k m) (sizes m) (args .after .now) (last-is (unblanked (lineOf (text m))) (fate told Last found))))
-    (args .at) (args .out .now) (args .list .now) (start told .pre)
+put-last-requires c κs = search needs
 
 enum-told-3 : tie.Need-enum-told-3
 enum-told-3 c = search needs
 
 put-out-requires : tie.Need-put-out-requires
-put-out-requires c κs =
-    let told = c .before .before .before in
-    let args = start told .args in
-    let m = left told in
-    same-room _ _ (same told Out (c .before .enum-told3 .given .1) _ (out-gives (args .count) (text m) (n m) (k m) (sizes m) (args .after .now)))
-    (args .at) (args .out .now) (args .list .now) (start told .pre) .1
+put-out-requires c κs = search needs
 
 same-length : tie.Need-same-length
 same-length c = search needs
@@ -157,8 +135,8 @@ returns-3 c =
     let m = left told in
     gave-both _ _ (same told Out (out .before .before .enum-told3 .given .1) _ (out-gives (args .count) (text m) (n m) (k m) (sizes m) (args .after .now)))
     (args .at) (args .out .now) (args .list .now)
-    (args .at .file) (out .put-out .result) (args .out .now) (out .put-out .last .0)
-    (put-nothing (args .at .file) (args .out .now)) (out .put-out .ensures)
+    0 (out .put-out .result) (args .out .now) (out .put-out .last .0)
+    (refl, sym (placed-none (args .at .file) (args .out .now))) (out .put-out .ensures)
 
 pub put-ended-spec : {M : Type 1} → statement M
 put-ended-spec =

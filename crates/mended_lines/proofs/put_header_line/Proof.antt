@@ -11,7 +11,7 @@ use Rattle.text.specs.Characters.{raisedText}
 use Rattle.cell_permit.specs.CellPermit.{lineEnd}
 use Rattle.mailed_lines.specs.Saying.{faultsSaid}
 use Rattle.mended_lines.specs.Gives.{headerGives}
-use Rattle.mended_lines.proofs.BothPut.{same-room, gave-both}
+use Rattle.mended_lines.proofs.BothPut.{gave-both}
 use Rattle.mended_lines.proofs.MeasuredLines.{Measured, line-counted, measured, mended-counted}
 use Rattle.mended_lines.proofs.LineGives.{gives, header-gives}
 use Rattle.mended_lines.proofs.put_header_line.Statement.{statement}
@@ -65,16 +65,10 @@ is-raised-requires : tie.Need-is-raised-requires
 is-raised-requires c κs = search needs
 
 put-line-requires : tie.Need-put-line-requires
-put-line-requires c κs =
-    let told = c .before in
-    let args = start told .args in
-    same-room _ _ (same told) (args .at) (args .out .now) (args .list .now) (start told .pre) .0
+put-line-requires c κs = search needs
 
 put-faults-requires : tie.Need-put-faults-requires
-put-faults-requires c κs =
-    let told = c .before .before .before .before .before in
-    let args = start told .args in
-    same-room _ _ (same told) (args .at) (args .out .now) (args .list .now) (start told .pre) .1
+put-faults-requires c κs = search needs
 
 same-length : tie.Need-same-length
 same-length c = search needs

@@ -3,8 +3,7 @@
 use mathlib.Core.Path.{_≡_, refl}
 use mathlib.Core.Bool.{Bool, false, not}
 use mathlib.Core.List.{List, _++_}
-use Prim.Native.Nat.{ℕ, _+_}
-use native.Mathlib.Omega.{arith}
+use Prim.Native.Nat.{ℕ}
 use borrow.Author.Needs.{needs}
 use borrow.Author.Tests.{not-true, not-false}
 use lib.Dec.{ltb}
@@ -14,8 +13,8 @@ use Rattle.file_lines.specs.Lines.{ecs}
 use Rattle.mailed_lines.specs.Mailed.{unblanked, isEcs}
 use Rattle.mailed_lines.specs.Saying.{faultsSaid}
 use Rattle.mended_lines.specs.Gives.{unendedGives}
-use Rattle.mended_lines.specs.Giving.{Room, addedSaid}
-use Rattle.mended_lines.proofs.BothPut.{same-room, gave-both}
+use Rattle.mended_lines.specs.Giving.{addedSaid}
+use Rattle.mended_lines.proofs.BothPut.{gave-both}
 use Rattle.mended_lines.proofs.MeasuredLines.{left-counted}
 use Rattle.mended_lines.proofs.LineGives.{gives, ecs-shown, added-gives, ecs-gives}
 use Rattle.mended_lines.proofs.put_unended.Statement.{statement}
@@ -42,23 +41,19 @@ module _ (test : tie.Then1) where
   abbrev other : tie.After-is-ecs
   other = test .before
 
-  added : unendedGives (start other .args .count) (line other) ≡ gives (ecs ++ lineEnd) (addedSaid (start other .args .count) (line other)) false
-  added = added-gives (start other .args .count) (line other) (shown other false (not-true _ (test .if1 .taken)))
+  added : unendedGives (start other .args .count) (start other .args .next) (line other) ≡ gives (ecs ++ lineEnd) (addedSaid (start other .args .count) (start other .args .next) (line other)) false
+  added = added-gives (start other .args .count) (start other .args .next) (line other) (shown other false (not-true _ (test .if1 .taken)))
 
 -- and where it is
 module _ (raised : tie.After-is-raised) where
   abbrev ended : tie.After-is-ecs
   ended = raised .before .before
 
-  kept : unendedGives (start ended .args .count) (line ended)
+  kept : unendedGives (start ended .args .count) (start ended .args .next) (line ended)
       ≡ gives ecs (faultsSaid false (ltb (left ended .unblanked-length .result) (length (line ended))) (not (raised .is-raised .result)) (start ended .args .count)) false
   kept =
-      ecs-gives (start ended .args .count) (line ended) (length (line ended)) (left ended .unblanked-length .result) refl (left ended .unblanked-length .ensures)
+      ecs-gives (start ended .args .count) (start ended .args .next) (line ended) (length (line ended)) (left ended .unblanked-length .result) refl (left ended .unblanked-length .ensures)
       (shown ended _ (not-false _ (raised .before .if1 .left))) (raised .is-raised .result) (raised .is-raised .ensures)
-
-  room : Room (gives ecs (faultsSaid false (ltb (left ended .unblanked-length .result) (length (line ended))) (not (raised .is-raised .result)) (start ended .args .count)) false)
-      (start ended .args .at) (start ended .args .out .now) (start ended .args .list .now)
-  room = same-room _ _ kept (start ended .args .at) (start ended .args .out .now) (start ended .args .list .now) (start ended .pre .1)
 
 slice-aggregate-ecs : tie.Need-slice-aggregate-ecs
 slice-aggregate-ecs c = search needs
@@ -75,16 +70,10 @@ is-ecs-requires : tie.Need-is-ecs-requires
 is-ecs-requires c κs = search needs
 
 put-line-requires : tie.Need-put-line-requires
-put-line-requires c κs =
-    let test = c .before in
-    let from = start (other test) in
-    same-room _ _ (added test) (from .args .at) (from .args .out .now) (from .args .list .now) (from .pre .1) .0
+put-line-requires c κs = search needs
 
 put-added-requires : tie.Need-put-added-requires
-put-added-requires c κs =
-    let test = c .before .before .before .before .before in
-    let from = start (other test) in
-    (from .pre .0, same-room _ _ (added test) (from .args .at) (from .args .out .now) (from .args .list .now) (from .pre .1) .1)
+put-added-requires c κs = search needs
 
 same-length : tie.Need-same-length
 same-length c = search needs
@@ -108,11 +97,8 @@ is-raised-requires c κs = search needs
 put-text-requires : tie.Need-put-text-requires
 put-text-requires c κs = search needs
 
-add-t24 : tie.Need-add-t24
-add-t24 c = omega (arith, room (c .before .before .before .before .before) .0 .0)
-
 put-faults-requires : tie.Need-put-faults-requires
-put-faults-requires c κs = room (c .before .before .before .before .before .before) .1
+put-faults-requires c κs = search needs
 
 same-length-3 : tie.Need-same-length-3
 same-length-3 c = search needs
@@ -123,11 +109,11 @@ same-length-4 c = search needs
 returns-2 : tie.Need-returns-2
 returns-2 c =
     let said = c .before .before in
-    let text = said .before .before .before .before .before in
+    let text = said .before .before .before .before in
     let raised = text .before .before in
     let args = start (ended raised) .args in
     gave-both _ _ (kept raised) (args .at) (args .out .now) (args .list .now)
-    (args .at .file + 4) (said .put-faults .result) (text .put-text .last .0) (said .put-faults .last .0)
+    4 (said .put-faults .result) (text .put-text .last .0) (said .put-faults .last .0)
     (refl, text .put-text .ensures) (said .put-faults .ensures)
 
 pub put-unended-spec : {M : Type 1} → statement M
@@ -145,7 +131,6 @@ put-unended-spec =
     returns
     is-raised-requires
     put-text-requires
-    add-t24
     put-faults-requires
     same-length-3
     same-length-4
