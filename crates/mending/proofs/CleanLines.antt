@@ -5,8 +5,8 @@ use mathlib.Core.Bool.{Bool, true, false, not, _||_}
 use mathlib.Core.List.{List, [], _∷_, _++_, append-assoc}
 use Prim.Native.Nat.{ℕ, zero, suc, _+_, _-_, _^_, _≤_, _<_}
 use native.Mathlib.Omega.{arith}
-use borrow.Author.Tests.{eqb-true, ne-eqb, not-true}
-use lib.Dec.{eqb}
+use borrow.Author.Tests.{eqb-true, ne-eqb, leb-true, not-true}
+use lib.Dec.{leb, eqb}
 use lib.ListN.{length, getD, take, drop, length-append, length-drop, take-append-drop}
 use lib.Seq.{take-length, take-all, take-add, drop-cons, drop-drop, getD-drop, length-take-le, getD-take}
 use Rattle.bytes.specs.Every.{allOf}
@@ -20,7 +20,8 @@ use Rattle.forms.proofs.DateTexts.{date-tests}
 use Rattle.cell_permit.specs.CellPermit.{comma, lineEnd}
 use Rattle.cell_permit.specs.Line.{commaAt, editionLength, commentPlace, isLine}
 use Rattle.cell_permit.proofs.GoodLine.{GoodLine, good-line}
-use Rattle.cell_permit.proofs.ReadFields.{comma-within, leading-all}
+use Rattle.cell_permit.proofs.ReadFields.{comma-within, leading-all, edition-few}
+use Rattle.line_shape.specs.Plain.{plainLength}
 use Rattle.line_shape.proofs.Shapes.{shortest-line}
 use Rattle.file_lines.specs.Texts.{textLength, textEnds}
 use Rattle.mailed_lines.specs.Texts.{textsOf}
@@ -217,6 +218,17 @@ module _ (file : List ℕ) (place r : ℕ) (clean : CleanAt file place r) where
 
   pub clean-within : (place < place + r) × (place + r ≤ length file)
   clean-within = (omega (arith, clean .size), omega (arith, clean .size, clean .within))
+
+-- how long a line without a comment is at most: the text has as many bytes
+pub plain-within : (text : List ℕ) (n : ℕ) → n ≡ plainLength text → (n ≤ length text) × (n ≤ 74)
+unfolding plainLength
+plain-within text n is =
+    either (leb 74 (length text))
+    (λ long.
+    let few = edition-few text (editionLength text) refl in
+    let size : n ≡ 71 + editionLength text = rw long at is in
+    (omega (arith, few, size, leb-true 74 (length text) long), omega (arith, few, size)))
+    (λ short. let none : n ≡ 0 = rw short at is in (omega (arith, none), omega (arith, none)))
 
 -- as the code finds it
 pub clean-found : (file : List ℕ) (place n : ℕ) → isLine (take (place + n - place) (drop place file)) ≡ true → place + n + 2 ≤ length file

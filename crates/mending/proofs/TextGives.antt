@@ -1,6 +1,6 @@
 -- What the text at a place gives: by whether LF ends it, how long it is, and that the rest follows it.
 -- Assumes nothing.
-use mathlib.Core.Path.{_≡_, refl, sym, ap, ap₂, _∙_}
+use mathlib.Core.Path.{_≡_, refl, sym, ap, ap₂, subst, _∙_}
 use mathlib.Core.Bool.{Bool, true, false, cond, not}
 use mathlib.Core.List.{List, [], _∷_, _++_}
 use Prim.Native.Nat.{ℕ, suc, _+_, _-_, _*_, _≤_, _<_}
@@ -25,6 +25,9 @@ use Rattle.mailed_lines.proofs.CutTexts.{firstOf, restOf, never-empty, joined-t
 use Rattle.mailed_lines.proofs.Lines.{line-short, unblanked-short}
 use Rattle.mailed_lines.proofs.SaidTexts.{said-length, out-length, faults-length}
 use Rattle.mended_lines.specs.Gives.{Gives, givesBy, unendedGives}
+use Rattle.mended_lines.specs.Giving.{given, outAfter, listAfter}
+use Rattle.mended_lines.specs.declared.Places.{Places}
+use Rattle.mended_lines.specs.declared.Given.{Given}
 use Rattle.mending.specs.Mending.{Mended, givesOf, followed, mendedFrom}
 use Rattle.mending.specs.Walking.{firstGives, givesAt}
 
@@ -180,3 +183,10 @@ module _ (file : List ℕ) (place end count : ℕ) (within : place ≤ length fi
   ended-part less =
       rw (is, take-all (length file - (textEnds file place + 1)) (drop (textEnds file place + 1) file) (omega (arith, length-drop (textEnds file place + 1) file)))
       (gives-ended file place count (omega (arith, is)))
+
+-- what was put for a line that gives the same
+pub same-given : (g h : Gives) → g ≡ h → (at : Places) (out list : List ℕ) (r : Given) (out₁ list₁ : List ℕ)
+    → (r ≡ given h) × ((out₁ ≡ outAfter h at out) × (list₁ ≡ listAfter h at list))
+    → (r ≡ given g) × ((out₁ ≡ outAfter g at out) × (list₁ ≡ listAfter g at list))
+same-given g h same at out list r out₁ list₁ put =
+    subst (λ (x : Gives). (r ≡ given x) × ((out₁ ≡ outAfter x at out) × (list₁ ≡ listAfter x at list))) (sym same) put

@@ -24,7 +24,7 @@ add-text-ends c =
     search needs
 
 text-ends-requires-2 : tie.Need-text-ends-requires-2
-text-ends-requires-2 c κs = within-one c
+text-ends-requires-2 c κs = search needs
 
 returns-2 : tie.Need-returns-2
 returns-2 c =
@@ -42,7 +42,7 @@ add-text-ends-2 c =
     search needs
 
 text-ends-requires-3 : tie.Need-text-ends-requires-3
-text-ends-requires-3 c κs = within-two c
+text-ends-requires-3 c κs = search needs
 
 returns-3 : tie.Need-returns-3
 returns-3 c =

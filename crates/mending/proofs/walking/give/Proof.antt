@@ -5,45 +5,9 @@ use native.Mathlib.Omega.{arith}
 use borrow.Author.Needs.{needs}
 use lib.ListN.{length}
 use Rattle.mailed_lines.proofs.CutTexts.{text-begins, text-ends-within}
-use Rattle.mended_lines.proofs.BothPut.{same-room, same-gave}
-use Rattle.mending.proofs.TextGives.{unended-part, ended-part}
+use Rattle.mending.proofs.TextGives.{unended-part, ended-part, same-given}
 use Rattle.mending.proofs.walking.give.Statement.{statement}
 use Rattle.mending.proofs.walking.give.Tie as tie
-
-sub-put-unended : tie.Need-sub-put-unended
-sub-put-unended c = search needs
-
-part-put-unended-start : tie.Need-part-put-unended-start
-part-put-unended-start c = search needs
-
-part-put-unended-end : tie.Need-part-put-unended-end
-part-put-unended-end c = search needs
-
-put-unended-requires : tie.Need-put-unended-requires
-put-unended-requires c κs =
-    let last = c .before .before .before in
-    let start = last .before .before .before .before in
-    let args = start .args in (
-      start .pre .1 .0,
-      same-room _ _ (unended-part (args .file .now) (args .place) (args .end) (args .count) (start .pre .0 .0) (start .pre .0 .1) (last .if1 .taken))
-          (args .at) (args .out .now) (args .list .now) (start .pre .1 .1),
-    )
-
-same-length : tie.Need-same-length
-same-length c = search needs
-
-same-length-2 : tie.Need-same-length-2
-same-length-2 c = search needs
-
-returns : tie.Need-returns
-returns c =
-    let put = c .before .before .before .before in
-    let last = put .before .before .before .before in
-    let start = last .before .before .before .before in
-    let args = start .args in
-    same-gave _ _ (unended-part (args .file .now) (args .place) (args .end) (args .count) (start .pre .0 .0) (start .pre .0 .1) (last .if1 .taken))
-    (args .at) (args .out .now) (args .list .now) (put .put-unended .result) (put .put-unended .last .1 .1 .0) (put .put-unended .last .1 .1 .1 .0)
-    (put .put-unended .ensures)
 
 -- what LF ends
 module _ (c : tie.Else1) where
@@ -57,6 +21,37 @@ module _ (c : tie.Else1) where
         omega (arith, begin .pre .0 .1, text-begins file place),
         omega (arith, begin .pre .0 .1, text-ends-within file place (begin .pre .0 .0), c .if1 .left),
       )
+
+sub-put-unended : tie.Need-sub-put-unended
+sub-put-unended c = search needs
+
+part-put-unended-start : tie.Need-part-put-unended-start
+part-put-unended-start c = search needs
+
+part-put-unended-end : tie.Need-part-put-unended-end
+part-put-unended-end c = search needs
+
+add-put-unended : tie.Need-add-put-unended
+add-put-unended c = search needs
+
+put-unended-requires : tie.Need-put-unended-requires
+put-unended-requires c κs = search needs
+
+same-length : tie.Need-same-length
+same-length c = search needs
+
+same-length-2 : tie.Need-same-length-2
+same-length-2 c = search needs
+
+returns : tie.Need-returns
+returns c =
+    let put = c .before .before .before .before in
+    let last = put .before .before .before .before in
+    let start = last .before .before .before .before in
+    let args = start .args in
+    same-given _ _ (unended-part (args .file .now) (args .place) (args .end) (args .count) (start .pre .0 .0) (start .pre .0 .1) (last .if1 .taken))
+    (args .at) (args .out .now) (args .list .now) (put .put-unended .result)
+    (put .put-unended .last .1 .1 .1 .0) (put .put-unended .last .1 .1 .1 .1 .0) (put .put-unended .ensures)
 
 sub-put-ended : tie.Need-sub-put-ended
 sub-put-ended c =
@@ -92,12 +87,7 @@ part-put-ended-end-2 : tie.Need-part-put-ended-end-2
 part-put-ended-end-2 c = search needs
 
 put-ended-requires : tie.Need-put-ended-requires
-put-ended-requires c κs =
-    let ended = c .before .before .before .before in
-    let start = begin ended in
-    let args = start .args in
-    same-room _ _ (ended-part (args .file .now) (args .place) (args .end) (args .count) (start .pre .0 .0) (start .pre .0 .1) (bounds ended .1))
-    (args .at) (args .out .now) (args .list .now) (start .pre .1 .1)
+put-ended-requires c κs = search needs
 
 same-length-3 : tie.Need-same-length-3
 same-length-3 c = search needs
@@ -111,9 +101,9 @@ returns-2 c =
     let ended = put .before .before .before .before .before in
     let start = begin ended in
     let args = start .args in
-    same-gave _ _ (ended-part (args .file .now) (args .place) (args .end) (args .count) (start .pre .0 .0) (start .pre .0 .1) (bounds ended .1))
-    (args .at) (args .out .now) (args .list .now) (put .put-ended .result) (put .put-ended .last .1 .1 .1 .0) (put .put-ended .last .1 .1 .1 .1 .0)
-    (put .put-ended .ensures)
+    same-given _ _ (ended-part (args .file .now) (args .place) (args .end) (args .count) (start .pre .0 .0) (start .pre .0 .1) (bounds ended .1))
+    (args .at) (args .out .now) (args .list .now) (put .put-ended .result)
+    (put .put-ended .last .1 .1 .1 .0) (put .put-ended .last .1 .1 .1 .1 .0) (put .put-ended .ensures)
 
 pub give-spec : {M : Type 1} → statement M
 give-spec =
@@ -122,6 +112,7 @@ give-spec =
     sub-put-unended
     part-put-unended-start
     part-put-unended-end
+    add-put-unended
     put-unended-requires
     same-length
     same-length-2

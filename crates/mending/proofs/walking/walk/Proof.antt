@@ -12,7 +12,7 @@ use Rattle.mended_lines.specs.declared.Places.{Places}
 use Rattle.mending.specs.Walking.{placesOf, fits, answered, Walkable}
 use Rattle.mending.specs.declared.Lengths.{Lengths}
 use Rattle.mending.specs.declared.walking.Going.{Going}
-use Rattle.mending.proofs.Walks.{Went, sizeSoFar, went-start, out-length, list-length, refused-answer, refused-outputs, done-answer, end-outputs, place-within, count-small, turn-room, went-turned, turn-rises}
+use Rattle.mending.proofs.Walks.{Went, sizeSoFar, went-start, out-length, list-length, refused-answer, refused-outputs, done-answer, end-outputs, may-turn, went-turned}
 use Rattle.mending.proofs.walking.walk.Statement.{statement}
 use Rattle.mending.proofs.walking.walk.Tie as tie
 
@@ -91,33 +91,22 @@ module _ (on : tie.Else1 Inv-loop μ-loop) where
 turn-requires : tie.Need-turn-requires Inv-loop μ-loop
 turn-requires c κs =
     let on = c .before .before in
-    let at = here on in (
-      (
-        place-within (file at) (place at) (places at) (room at) (out₀ at) (list₀ at) (start at .pre) (t at) (at .loop .out) (at .loop .list) (at .loop .inv) (more on),
-        count-small (file at) (place at) (places at) (room at) (out₀ at) (list₀ at) (start at .pre) (t at) (at .loop .out) (at .loop .list) (at .loop .inv) (more on),
-      ),
-      turn-room (file at) (place at) (places at) (room at) (out₀ at) (list₀ at) (start at .pre) (t at) (at .loop .out) (at .loop .list) (at .loop .inv) (more on) (good on),
-    )
+    let at = here on in
+    may-turn (file at) (place at) (places at) (room at) (out₀ at) (list₀ at) (start at .pre) (t at) (at .loop .out) (at .loop .list) (at .loop .inv) (more on) (good on)
 
 loop-less : tie.Need-loop-less Inv-loop μ-loop
 loop-less c =
     let turn = c .before .before .before .before in
     let on = turn .before .before .before in
-    let at = here on in
-    omega (
-      arith,
-      ap (λ (g : Going). g .place) (turn .turn .ensures .0),
-      turn-rises (file at) (place at) (places at) (room at) (out₀ at) (list₀ at) (start at .pre) (t at) (at .loop .out) (at .loop .list) (at .loop .inv) (more on) (good on),
-      place-within (file at) (place at) (places at) (room at) (out₀ at) (list₀ at) (start at .pre) (t at) (at .loop .out) (at .loop .list) (at .loop .inv) (more on),
-    )
+    omega (arith, turn .turn .ensures .rises, here on .loop .inv .inside (more on))
 
 loop-again : tie.Need-loop-again Inv-loop μ-loop
 loop-again c =
     let turn = c .before .before .before .before in
     let on = turn .before .before .before in
     let at = here on in
-    rw (turn .turn .ensures .0, turn .turn .ensures .1 .0, turn .turn .ensures .1 .1)
-    (went-turned (file at) (place at) (places at) (room at) (out₀ at) (list₀ at) (start at .pre) (t at) (at .loop .out) (at .loop .list) (at .loop .inv) (more on) (good on))
+    went-turned (file at) (place at) (places at) (room at) (out₀ at) (list₀ at) (start at .pre) (t at) (at .loop .out) (at .loop .list) (at .loop .inv) (more on) (good on)
+    (turn .turn .result) (turn .turn .last .1 .0) (turn .turn .last .1 .1 .0) (turn .turn .ensures)
 
 fits-requires-2 : tie.Need-fits-requires-2 Inv-loop μ-loop
 fits-requires-2 c κs = search needs
