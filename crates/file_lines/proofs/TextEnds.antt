@@ -2,21 +2,22 @@
 -- Assumes nothing.
 use mathlib.Core.Path.{_≡_, sym, ap, _∙_}
 use mathlib.Core.Bool.{true, cond}
-use mathlib.Core.List.{List, _∷_}
+use mathlib.Core.List.{List, [], _∷_, _++_}
 use Prim.Native.Nat.{ℕ, zero, suc, _+_, _≤_, _<_}
 use native.Mathlib.Numerals.{add-one}
 use native.Mathlib.Omega.{arith}
 use borrow.Author.Tests.{eq-eqb, ne-eqb, ltb-true}
 use lib.Dec.{eqb, ltb}
-use lib.ListN.{length, getD, take, drop, drop-of-length-le}
-use lib.Seq.{drop-cons}
+use lib.ListN.{length, getD, take, drop, length-drop, drop-of-length-le}
+use lib.Seq.{take-suc, drop-cons, getD-drop}
 use Rattle.bytes.specs.Numbers.{Below, bytesOf}
-use Rattle.bytes.specs.Every.{allOf}
+use Rattle.bytes.specs.Every.{allOf, countOf}
 use Rattle.bytes.specs.Places.{numberAt}
-use Rattle.bytes.proofs.Every.{either, all-first, all-rest}
+use Rattle.bytes.proofs.Counts.{count-append, count-passes, count-fails}
+use Rattle.bytes.proofs.Every.{either, never-both, all-first, all-rest}
 use Rattle.bytes.proofs.Places.{bytes-at}
 use Rattle.text.specs.Texts.{part}
-use Rattle.file_lines.specs.Texts.{textLength, textEnds}
+use Rattle.file_lines.specs.Texts.{isLf, textLength, textEnds}
 
 by-head : (i c : ℕ) (s : List ℕ) → i + textLength (c ∷ s) ≡ cond (eqb c 10) i (i + 1 + textLength s)
 unfolding textLength
@@ -58,6 +59,35 @@ module _ (file : List ℕ) where
   pub word-passed : Below 256 file → (i : ℕ) → i + 8 ≤ length file → allOf (ltb 13) (bytesOf 8 (numberAt 8 file i)) ≡ true
       → textEnds file i ≡ textEnds file (i + 8)
   word-passed below i within all = passes 8 i within (sym (ap (allOf (ltb 13)) (bytes-at 8 file i below within)) ∙ all)
+
+-- bytes among which no LF is counted are passed at once
+module _ (file : List ℕ) where
+  pub none-counted : (n i : ℕ) → i + n ≤ length file → countOf isLf (part n file i) ≡ 0 → textEnds file i ≡ textEnds file (i + n)
+  none-counted zero i within none = let e : i ≡ i + 0 = omega arith in ap (textEnds file) e
+  none-counted (suc n) i within none =
+      let e : i + 1 + n ≡ i + suc n = omega arith in
+      let split : part (suc n) file i ≡ getD file i 0 ∷ part n file (i + 1) =
+      ap (take (suc n)) (drop-cons file i 0 (omega arith)) ∙ ap (λ (k : ℕ). getD file i 0 ∷ part n file k) (sym (add-one i)) in
+      let each : countOf isLf (getD file i 0 ∷ part n file (i + 1)) ≡ 0 = sym (ap (countOf isLf) split) ∙ none in
+      either (eqb (getD file i 0) 10)
+      (λ lf. absurd (omega (arith, each, count-passes isLf (getD file i 0) (part n file (i + 1)) lf)))
+      (λ other.
+      goes-on file i (omega arith) (λ is. never-both (eqb (getD file i 0) 10) other (eq-eqb (getD file i 0) 10 is))
+      ∙ none-counted n (i + 1) (omega arith) (sym (count-fails isLf (getD file i 0) (part n file (i + 1)) other) ∙ each)
+      ∙ ap (textEnds file) e)
+
+  -- counting them one by one
+  pub count-next : (at i : ℕ) → at + i < length file
+      → countOf isLf (part (i + 1) file at) ≡ countOf isLf (part i file at) + cond (eqb (getD file (at + i) 0) 10) 1 0
+  unfolding countOf
+  count-next at i within =
+      let s = drop at file in
+      let byte : getD s i 0 ≡ getD file (at + i) 0 = getD-drop at file i 0 in
+      ap (λ (k : ℕ). countOf isLf (take k s)) (add-one i)
+      ∙ ap (countOf isLf) (take-suc s i 0 (omega (arith, length-drop at file)) ∙ ap (λ (c : ℕ). take i s ++ (c ∷ [])) byte)
+      ∙ count-append isLf (take i s) (getD file (at + i) 0 ∷ [])
+      ∙ ap (λ (k : ℕ). countOf isLf (take i s) + k)
+      (either (eqb (getD file (at + i) 0) 10) (λ lf. rw lf) (λ other. rw other))
 
 -- beyond the file none begins
 pub ends-beyond : (file : List ℕ) (place : ℕ) → length file < place → textEnds file place ≡ place

@@ -1,5 +1,5 @@
 -- Texts that LF ends.
-use mathlib.Core.Bool.{cond}
+use mathlib.Core.Bool.{Bool, cond}
 use mathlib.Core.List.{List, [], _∷_}
 use Prim.Native.Nat.{ℕ, suc, _+_}
 use lib.Dec.{eqb}
@@ -9,6 +9,10 @@ use Rattle.text.specs.Ascii.{byte}
 -- LF
 abbrev pub lf : ℕ
 lf = byte "\n"
+
+-- a byte is LF
+abbrev pub isLf : ℕ → Bool
+isLf c = eqb c lf
 
 -- how many bytes stand before the first LF; all where there is none
 unfoldable pub textLength : List ℕ → ℕ

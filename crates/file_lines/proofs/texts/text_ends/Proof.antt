@@ -19,11 +19,14 @@ abbrev μ-loop : tie.MeasureT-loop
 returns : tie.Need-returns Inv-loop μ-loop
 returns c = sym (ends-beyond (c .before .before .args .file .now) (c .before .before .args .place) (c .if1 .taken))
 
+pass-blocks-requires : tie.Need-pass-blocks-requires Inv-loop μ-loop
+pass-blocks-requires c κs = search needs
+
 pass-words-requires : tie.Need-pass-words-requires Inv-loop μ-loop
-pass-words-requires c κs = search needs
+pass-words-requires c κs = c .pass-blocks .ensures .0
 
 loop-holds : tie.Need-loop-holds Inv-loop μ-loop
-loop-holds c = c .pass-words .ensures
+loop-holds c = (c .pass-words .ensures .0, c .pass-words .ensures .1 ∙ c .before .pass-blocks .ensures .1)
 
 shared-slice-read-if2 : tie.Need-shared-slice-read-if2 Inv-loop μ-loop
 shared-slice-read-if2 c = search needs
@@ -32,7 +35,7 @@ returns-2 : tie.Need-returns-2 Inv-loop μ-loop
 returns-2 c =
     let test = c .before .before in
     let now = test .before .loop in
-    sym (ends-here (test .before .before .before .before .before .args .file .now) (now .i) (test .loop-test .taken) (c .if2 .taken)) ∙ now .inv .1
+    sym (ends-here (test .before .before .before .before .before .before .args .file .now) (now .i) (test .loop-test .taken) (c .if2 .taken)) ∙ now .inv .1
 
 add-i : tie.Need-add-i Inv-loop μ-loop
 add-i c = search needs
@@ -45,13 +48,13 @@ loop-again c =
     let test = c .before .before in
     let now = test .before .loop in (
       omega arith,
-      sym (goes-on (test .before .before .before .before .before .args .file .now) (now .i) (test .loop-test .taken) (c .if2 .left)) ∙ now .inv .1,
+      sym (goes-on (test .before .before .before .before .before .before .args .file .now) (now .i) (test .loop-test .taken) (c .if2 .left)) ∙ now .inv .1,
     )
 
 returns-3 : tie.Need-returns-3 Inv-loop μ-loop
 returns-3 c =
     let now = c .before .loop in
-    sym (ends-with-file (c .before .before .before .before .before .args .file .now) (now .i) (c .loop-test .left)) ∙ now .inv .1
+    sym (ends-with-file (c .before .before .before .before .before .before .args .file .now) (now .i) (c .loop-test .left)) ∙ now .inv .1
 
 pub text-ends-spec : {M : Type 1} → statement M
 text-ends-spec =
@@ -60,6 +63,7 @@ text-ends-spec =
     Inv-loop
     μ-loop
     returns
+    pass-blocks-requires
     pass-words-requires
     loop-holds
     shared-slice-read-if2
