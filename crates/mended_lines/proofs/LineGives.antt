@@ -3,13 +3,13 @@
 use mathlib.Core.Path.{_≡_, refl, sym, ap, ap₂, _∙_}
 use mathlib.Core.Bool.{Bool, true, false, not}
 use mathlib.Core.List.{List, [], _∷_, _++_}
-use Prim.Native.Nat.{ℕ, _+_, _^_, _<_}
+use Prim.Native.Nat.{ℕ, _+_}
 use native.Mathlib.Omega.{arith}
 use lib.Dec.{eqb, ltb}
 use lib.ListN.{length, take, length-append}
 use Rattle.text.specs.Ascii.{ascii}
 use Rattle.text.specs.Characters.{raisedText}
-use Rattle.text.specs.Texts.{sameText, numeral}
+use Rattle.text.specs.Texts.{sameText, width, numeral}
 use Rattle.text.proofs.SameTexts.{same-refl}
 use Rattle.text.proofs.Numerals.{numeral-length}
 use Rattle.cell_permit.specs.CellPermit.{lineEnd}
@@ -20,7 +20,6 @@ use Rattle.mailed_lines.specs.declared.Fate.{Fate}
 use Rattle.mailed_lines.specs.declared.Fate.the-variants.{Kept, Last, Out}
 use Rattle.mailed_lines.proofs.Fates.{ecs-raised}
 use Rattle.mailed_lines.proofs.SaidTexts.{out-length}
-use Rattle.mailed_lines.proofs.PutLines.{width-short}
 use Rattle.mended_lines.specs.Gives.{Gives, headerGives, givesBy, unendedGives}
 use Rattle.mended_lines.specs.Giving.{lastGives, addedSaid}
 use Rattle.mended_lines.proofs.MeasuredLines.{Measured, line-taken, left-taken, mended-taken, faults-shown, all-faults-shown}
@@ -96,18 +95,13 @@ unfolding addedSaid said
 some-said count next [] some = absurd (some refl)
 some-said count next (c ∷ line) some = refl
 
--- how long both are, for counts of 64 bits and a line of a slice: a number of the machine
-pub added-fits : (count next : ℕ) (line : List ℕ) → count < 2 ^ 64 → next < 2 ^ 64 → length line < 2 ^ 63
-    → length (outSaid count line) + length (numeral next ++ ascii " ECS\n") < 2 ^ 64
-added-fits count next line count-fits next-fits line-fits =
-    omega (
-      arith,
-      out-length count line,
-      length-append (numeral next) (ascii " ECS\n"),
-      numeral-length next,
-      width-short count count-fits,
-      width-short next next-fits,
-    )
+-- how long that line is, and both are, by the digits of their counts
+pub added-sizes : (count next : ℕ) (line : List ℕ) (w v : ℕ) → w ≡ width count → v ≡ width next
+    → (w + length line + 6 ≡ length (outSaid count line)) × (w + length line + 6 + v + 5 ≡ length (outSaid count line ++ (numeral next ++ ascii " ECS\n")))
+added-sizes count next line w v first second =
+    let out : w + length line + 6 ≡ length (outSaid count line) = omega (arith, out-length count line) in
+    let ended : length (numeral next ++ ascii " ECS\n") ≡ v + 5 = omega (arith, length-append (numeral next) (ascii " ECS\n"), numeral-length next) in
+    (out, omega (arith, length-append (outSaid count line) (numeral next ++ ascii " ECS\n")))
 
 -- what is not :ECS
 pub added-gives : (count next : ℕ) (line : List ℕ) → isEcs (unblanked line) ≡ false

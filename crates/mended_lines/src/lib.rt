@@ -152,9 +152,8 @@ fn put_added(list: &mut [u8], at: usize, count: u64, next: u64, line: &[u8]) -> 
     if line.len() == 0 {
         return mailed_lines::saying::put_counted(list, at, count, said);
     }
-    let mut none = [0u8; 0];
-    let out = mailed_lines::saying::put_out(&mut none, 0, count, line);
-    let size = out + mailed_lines::saying::put_counted(&mut none, 0, next, said);
+    let out = text::writing::width(count) + line.len() + 6;
+    let size = out + text::writing::width(next) + 5;
     if bytes::numbers::lies_within(list, at, size) {
         mailed_lines::saying::put_out(list, at, count, line);
         mailed_lines::saying::put_counted(list, at + out, next, said);
