@@ -67,7 +67,7 @@ unfolding countedIf
 length-if true n letters rest size = omega (arith, size, numeral-length n, length-append (numeral n) rest)
 length-if false n letters rest size = refl
 
-pub if-small : (fault : Bool) (n letters x : ℕ) → x ≡ cond fault (width n + letters) 0 → x ≤ width n + letters
+pub if-small : (fault : Bool) (n letters x : ℕ) → x ≡ cond fault (n + letters) 0 → x ≤ n + letters
 if-small true n letters x is = omega arith
 if-small false n letters x is = omega arith
 

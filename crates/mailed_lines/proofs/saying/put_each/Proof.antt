@@ -18,7 +18,7 @@ add-second c =
     let first = c .before .before in
     let start = first .before .before .before .before in
     let args = start .args in
-    let h = second-fits (args .eol) (args .blank) (args .case) (args .count) (args .at) (args .list .now) (start .pre) (first .put-if .result) (first .put-if .ensures .0) in
+    let h = second-fits (args .eol) (args .blank) (args .case) (args .count) (args .at) (args .list .now) (start .pre .1) (first .put-if .result) (first .put-if .ensures .0) in
     record { fits = omega (arith, h, start .good .0) }
 
 slice-aggregate-put-if-2 : tie.Need-slice-aggregate-put-if-2
@@ -34,7 +34,7 @@ add-third c =
     let start = first .before .before .before .before in
     let args = start .args in
     let h =
-    third-fits (args .eol) (args .blank) (args .case) (args .count) (args .at) (args .list .now) (start .pre)
+    third-fits (args .eol) (args .blank) (args .case) (args .count) (args .at) (args .list .now) (start .pre .1)
     (first .put-if .result) (second .put-if2 .result) (first .put-if .ensures .0) (second .put-if2 .ensures .0) in
     record { fits = omega (arith, h, start .good .0) }
 
@@ -54,7 +54,7 @@ returns c =
     let first = second .before .before .before .before .before in
     let start = first .before .before .before .before in
     let args = start .args in
-    each-put (args .eol) (args .blank) (args .case) (args .count) (args .at) (args .list .now) (start .pre)
+    each-put (args .eol) (args .blank) (args .case) (args .count) (args .at) (args .list .now) (start .pre .1)
     (first .put-if .result) (second .put-if2 .result) (first .put-if .last .0) (second .put-if2 .last .0) (third .put-if3 .last .0)
     (first .put-if .ensures .0) (second .put-if2 .ensures .0) (first .put-if .ensures .1) (second .put-if2 .ensures .1) (third .put-if3 .ensures .1)
 

@@ -5,8 +5,8 @@ use Rattle.mailed_lines.proofs.PutLines.{fault-put, no-fault-put}
 use Rattle.mailed_lines.proofs.saying.put_if.Statement.{statement}
 use Rattle.mailed_lines.proofs.saying.put_if.Tie as tie
 
-put-counted-requires : tie.Need-put-counted-requires
-put-counted-requires c κs = search needs
+put-said-requires : tie.Need-put-said-requires
+put-said-requires c κs = search needs
 
 same-length : tie.Need-same-length
 same-length c = search needs
@@ -17,7 +17,7 @@ returns c =
     let on = put .before .before in
     let args = on .before .before .before .args in
     fault-put (args .at) (args .fault) (args .count) (args .rest .now) (args .list .now) (on .if1 .taken)
-    (put .put-counted .result) (put .put-counted .last .0) (put .put-counted .ensures)
+    (put .put-said .result) (put .put-said .last .0) (put .put-said .ensures)
 
 returns-2 : tie.Need-returns-2
 returns-2 c =
@@ -25,4 +25,4 @@ returns-2 c =
     no-fault-put (args .at) (args .fault) (args .count) (args .rest .now) (args .list .now) (c .if1 .left)
 
 pub put-if-spec : {M : Type 1} → statement M
-put-if-spec = tie.close (tie.spec put-counted-requires same-length returns returns-2)
+put-if-spec = tie.close (tie.spec put-said-requires same-length returns returns-2)
