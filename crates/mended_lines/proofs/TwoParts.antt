@@ -11,7 +11,6 @@ use lib.ListN.{length, length-append, length-map}
 use Rattle.text.specs.Characters.{raised}
 use Rattle.text.specs.Texts.{placed}
 use Rattle.text.proofs.PlacedTexts.{placed-next}
-use Rattle.cell_permit.specs.CellPermit.{lineEnd}
 use Rattle.mailed_lines.proofs.PutLines.{not-put}
 use Rattle.mended_lines.specs.Giving.{cased}
 
@@ -45,6 +44,6 @@ pub cased-length : (raise : Bool) (text : List ℕ) → length text ≡ length (
 cased-length true text = sym (length-map text raised)
 cased-length false text = refl
 
--- so a line and its CR LF are two bytes more
-pub line-size : (raise : Bool) (line : List ℕ) → length line + 2 ≡ length (cased raise line ++ lineEnd)
-line-size raise line = omega (arith, length-append (cased raise line) lineEnd, cased-length raise line)
+-- so it and one after it are as long
+pub two-size : (raise : Bool) (text after : List ℕ) → length text + length after ≡ length (cased raise text ++ after)
+two-size raise text after = omega (arith, length-append (cased raise text) after, cased-length raise text)

@@ -4,8 +4,6 @@ ghost use mathlib.Core.Path.{_≡_};
 ghost use mathlib.Core.List.{_++_};
 ghost use lib.ListN.{length};
 ghost use Rattle.text.specs.Texts.{placed};
-ghost use Rattle.cell_permit.specs.CellPermit.{lineEnd};
-ghost use Rattle.file_lines.specs.Lines.{ecs};
 ghost use Rattle.mailed_lines.specs.Mailed.{lineOf, unblanked, fateOf};
 ghost use Rattle.mended_lines.specs.Gives.{headerGives, givesBy, unendedGives};
 ghost use Rattle.mended_lines.specs.Giving.{given, outAfter, listAfter, cased, lastGives, addedSaid};
@@ -34,28 +32,15 @@ fn put_cased(out: &mut [u8], at: usize, text: &[u8], raise: bool)
     text::writing::put_text(out, at, text)
 }
 
-// Puts a line in the same way, and its CR LF; answers how many bytes they are.
-fn put_line(out: &mut [u8], at: usize, line: &[u8], raise: bool) -> usize
-    ensures { λ r. ⌜ (r ≡ length (cased raise (now (line .entry)) ++ lineEnd))
-        × (now (out .exit) ≡ placed at (cased raise (now (line .entry)) ++ lineEnd) (now (out .entry))) ⌝ }
+// Puts a text in the same way, and one after it, as it stands; answers how many bytes both are.
+fn put_two(out: &mut [u8], at: usize, text: &[u8], raise: bool, after: &[u8]) -> usize
+    ensures { λ r. ⌜ (r ≡ length (cased raise (now (text .entry)) ++ now (after .entry)))
+        × (now (out .exit) ≡ placed at (cased raise (now (text .entry)) ++ now (after .entry)) (now (out .entry))) ⌝ }
 {
-    let size = line.len() + 2;
+    let size = text.len() + after.len();
     if bytes::numbers::lies_within(out, at, size) {
-        put_cased(out, at, line, raise);
-        text::writing::put_text(out, at + line.len(), b"\r\n");
-    }
-    size
-}
-
-// Puts the line :ECS, its CR LF and what stands after it, as it stands; answers how many bytes they are.
-fn put_ecs(out: &mut [u8], at: usize, after: &[u8]) -> usize
-    ensures { λ r. ⌜ (r ≡ length ((ecs ++ lineEnd) ++ now (after .entry)))
-        × (now (out .exit) ≡ placed at ((ecs ++ lineEnd) ++ now (after .entry)) (now (out .entry))) ⌝ }
-{
-    let size = 6 + after.len();
-    if bytes::numbers::lies_within(out, at, size) {
-        text::writing::put_text(out, at, b":ECS\r\n");
-        put_cased(out, at + 6, after, false);
+        put_cased(out, at, text, raise);
+        put_cased(out, at + text.len(), after, false);
     }
     size
 }
@@ -77,7 +62,7 @@ pub fn put_header_line(
     let line = &text[..k];
     let case = !mailed_lines::is_raised(line);
     Given {
-        file: put_line(out, at.file, line, true),
+        file: put_two(out, at.file, line, true, b"\r\n"),
         list: mailed_lines::saying::put_faults(list, at.list, n == text.len(), k < n, case, count),
         more: true,
     }
@@ -100,7 +85,7 @@ fn put_last(
 {
     let case = !mailed_lines::is_raised(line);
     Given {
-        file: put_ecs(out, at.file, after),
+        file: put_two(out, at.file, b":ECS\r\n", false, after),
         list: mailed_lines::saying::put_faults(list, at.list, eol, blank, case, count),
         more: false,
     }
@@ -127,7 +112,7 @@ pub fn put_ended(
     let blank = k < n;
     match mailed_lines::fate_of(left) {
         Fate::Kept => Given {
-            file: put_line(out, at.file, left, false),
+            file: put_two(out, at.file, left, false, b"\r\n"),
             list: mailed_lines::saying::put_faults(list, at.list, eol, blank, false, count),
             more: true,
         },
@@ -174,18 +159,18 @@ pub fn put_unended(
         × ((now (out .exit) ≡ outAfter (unendedGives count next (now (line .entry))) at (now (out .entry)))
         × (now (list .exit) ≡ listAfter (unendedGives count next (now (line .entry))) at (now (list .entry)))) ⌝ }
 {
-    let ecs: &[u8] = b":ECS";
     let k = mailed_lines::unblanked_length(line);
     let left = &line[..k];
     if !mailed_lines::is_ecs(left) {
+        text::writing::put_text(out, at.file, b":ECS\r\n");
         return Given {
-            file: put_line(out, at.file, ecs, false),
+            file: 6,
             list: put_added(list, at.list, count, next, line),
             more: false,
         };
     }
     let case = !mailed_lines::is_raised(left);
-    text::writing::put_text(out, at.file, ecs);
+    text::writing::put_text(out, at.file, b":ECS");
     Given {
         file: 4,
         list: mailed_lines::saying::put_faults(list, at.list, false, k < line.len(), case, count),

@@ -71,8 +71,11 @@ fate-of-requires c κs = search needs
 enum-told : tie.Need-enum-told
 enum-told c = search needs
 
-put-line-requires : tie.Need-put-line-requires
-put-line-requires c κs = search needs
+slice-aggregate-put-two : tie.Need-slice-aggregate-put-two
+slice-aggregate-put-two c = search needs
+
+put-two-requires : tie.Need-put-two-requires
+put-two-requires c κs = search needs
 
 put-faults-requires : tie.Need-put-faults-requires
 put-faults-requires c κs = search needs
@@ -99,13 +102,13 @@ returns : tie.Need-returns
 returns c =
     let said = c .before .before in
     let line = said .before .before .before .before in
-    let kept = line .before .before in
+    let kept = line .before .before .before in
     let told = kept .before .before in
     let args = start told .args in
     let m = left told in
     gave-both _ _ (same told Kept (kept .enum-told .given .1) _ (kept-gives (args .count) (text m) (n m) (k m) (sizes m) (args .after .now)))
     (args .at) (args .out .now) (args .list .now)
-    (line .put-line .result) (said .put-faults .result) (line .put-line .last .0) (said .put-faults .last .0) (line .put-line .ensures) (said .put-faults .ensures)
+    (line .put-two .result) (said .put-faults .result) (line .put-two .last .0) (said .put-faults .last .0) (line .put-two .ensures) (said .put-faults .ensures)
 
 same-length-3 : tie.Need-same-length-3
 same-length-3 c = search needs
@@ -148,7 +151,8 @@ put-ended-spec =
     slice-aggregate-left
     fate-of-requires
     enum-told
-    put-line-requires
+    slice-aggregate-put-two
+    put-two-requires
     put-faults-requires
     enum-told-2
     put-last-requires

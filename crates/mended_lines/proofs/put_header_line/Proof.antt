@@ -64,8 +64,11 @@ slice-aggregate-line c = mended-counted (text (c .before)) (n (c .before)) (k (c
 is-raised-requires : tie.Need-is-raised-requires
 is-raised-requires c κs = search needs
 
-put-line-requires : tie.Need-put-line-requires
-put-line-requires c κs = search needs
+slice-aggregate-put-two : tie.Need-slice-aggregate-put-two
+slice-aggregate-put-two c = search needs
+
+put-two-requires : tie.Need-put-two-requires
+put-two-requires c κs = search needs
 
 put-faults-requires : tie.Need-put-faults-requires
 put-faults-requires c κs = search needs
@@ -80,11 +83,11 @@ returns : tie.Need-returns
 returns c =
     let said = c .before .before in
     let line = said .before .before .before .before in
-    let told = line .before .before in
+    let told = line .before .before .before in
     let args = start told .args in
     gave-both _ _ (same told) (args .at) (args .out .now) (args .list .now)
-    (line .put-line .result) (said .put-faults .result) (line .put-line .last .0) (said .put-faults .last .0)
-    (line .put-line .ensures) (said .put-faults .ensures)
+    (line .put-two .result) (said .put-faults .result) (line .put-two .last .0) (said .put-faults .last .0)
+    (line .put-two .ensures) (said .put-faults .ensures)
 
 pub put-header-line-spec : {M : Type 1} → statement M
 put-header-line-spec =
@@ -95,7 +98,8 @@ put-header-line-spec =
     unblanked-length-requires
     slice-aggregate-line
     is-raised-requires
-    put-line-requires
+    slice-aggregate-put-two
+    put-two-requires
     put-faults-requires
     same-length
     same-length-2

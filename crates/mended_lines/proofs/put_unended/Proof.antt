@@ -26,7 +26,7 @@ module _ (told : tie.After-is-ecs) where
   left = told .before .before
 
   abbrev start : tie.Start
-  start = left .before .before .before .before .before
+  start = left .before .before .before .before
 
   abbrev line : List ℕ
   line = start .args .line .now
@@ -55,22 +55,22 @@ module _ (raised : tie.After-is-raised) where
       ecs-gives (start ended .args .count) (start ended .args .next) (line ended) (length (line ended)) (left ended .unblanked-length .result) refl (left ended .unblanked-length .ensures)
       (shown ended _ (not-false _ (raised .before .if1 .left))) (raised .is-raised .result) (raised .is-raised .ensures)
 
-slice-aggregate-ecs : tie.Need-slice-aggregate-ecs
-slice-aggregate-ecs c = search needs
-
 unblanked-length-requires : tie.Need-unblanked-length-requires
 unblanked-length-requires c κs = search needs
 
 slice-aggregate-left : tie.Need-slice-aggregate-left
 slice-aggregate-left c =
     let measured = c .before in
-    left-counted (measured .before .before .before .before .before .args .line .now) (measured .unblanked-length .result) (measured .unblanked-length .ensures)
+    left-counted (measured .before .before .before .before .args .line .now) (measured .unblanked-length .result) (measured .unblanked-length .ensures)
 
 is-ecs-requires : tie.Need-is-ecs-requires
 is-ecs-requires c κs = search needs
 
-put-line-requires : tie.Need-put-line-requires
-put-line-requires c κs = search needs
+slice-aggregate-put-text : tie.Need-slice-aggregate-put-text
+slice-aggregate-put-text c = search needs
+
+put-text-requires : tie.Need-put-text-requires
+put-text-requires c κs = search needs
 
 put-added-requires : tie.Need-put-added-requires
 put-added-requires c κs = search needs
@@ -85,17 +85,20 @@ returns : tie.Need-returns
 returns c =
     let said = c .before .before in
     let end = said .before .before .before .before in
-    let test = end .before .before in
+    let test = end .before .before .before in
     let args = start (other test) .args in
     gave-both _ _ (added test) (args .at) (args .out .now) (args .list .now)
-    (end .put-line .result) (said .put-added .result) (end .put-line .last .0) (said .put-added .last .0)
-    (end .put-line .ensures) (said .put-added .ensures)
+    6 (said .put-added .result) (end .put-text .last .0) (said .put-added .last .0)
+    (refl, end .put-text .ensures) (said .put-added .ensures)
 
 is-raised-requires : tie.Need-is-raised-requires
 is-raised-requires c κs = search needs
 
-put-text-requires : tie.Need-put-text-requires
-put-text-requires c κs = search needs
+slice-aggregate-put-text-2 : tie.Need-slice-aggregate-put-text-2
+slice-aggregate-put-text-2 c = search needs
+
+put-text-requires-2 : tie.Need-put-text-requires-2
+put-text-requires-2 c κs = search needs
 
 put-faults-requires : tie.Need-put-faults-requires
 put-faults-requires c κs = search needs
@@ -110,27 +113,28 @@ returns-2 : tie.Need-returns-2
 returns-2 c =
     let said = c .before .before in
     let text = said .before .before .before .before in
-    let raised = text .before .before in
+    let raised = text .before .before .before in
     let args = start (ended raised) .args in
     gave-both _ _ (kept raised) (args .at) (args .out .now) (args .list .now)
-    4 (said .put-faults .result) (text .put-text .last .0) (said .put-faults .last .0)
-    (refl, text .put-text .ensures) (said .put-faults .ensures)
+    4 (said .put-faults .result) (text .put-text2 .last .0) (said .put-faults .last .0)
+    (refl, text .put-text2 .ensures) (said .put-faults .ensures)
 
 pub put-unended-spec : {M : Type 1} → statement M
 put-unended-spec =
     tie.close
     (tie.spec
-    slice-aggregate-ecs
     unblanked-length-requires
     slice-aggregate-left
     is-ecs-requires
-    put-line-requires
+    slice-aggregate-put-text
+    put-text-requires
     put-added-requires
     same-length
     same-length-2
     returns
     is-raised-requires
-    put-text-requires
+    slice-aggregate-put-text-2
+    put-text-requires-2
     put-faults-requires
     same-length-3
     same-length-4
