@@ -10,24 +10,27 @@ fn write_start(out: &[u8], size: usize) {
     }
 }
 
-// Writes the report where its input asks for 32,768 bytes or fewer, and says whether it did.
-fn write_usual(input: &[u8]) -> bool {
-    let mut out = [0u8; 32768];
-    match report::look_through(input, &mut out) {
+// Writes the report where the output has the room that its input asks for, and says whether it did.
+fn write_report(input: &[u8], out: &mut [u8]) -> bool {
+    match report::look_through(input, out) {
         Written::Length(size) => {
-            write_start(&out, size);
+            write_start(out, size);
             true
         }
         Written::Refused(_) => false,
     }
 }
 
-// Writes the report of any input: 600,000 bytes are always enough (the law room-enough), and clearing them takes long.
+// The room that most inputs ask for.
+fn write_usual(input: &[u8]) -> bool {
+    let mut out = [0u8; 32768];
+    write_report(input, &mut out)
+}
+
+// Room for any input: 600,000 bytes are always enough (the law room-enough), and clearing them takes long.
 fn write_any(input: &[u8]) {
     let mut out = [0u8; 600000];
-    if let Written::Length(size) = report::look_through(input, &mut out) {
-        write_start(&out, size);
-    }
+    write_report(input, &mut out);
 }
 
 // The input has one byte more than is taken, so that one that is too long is seen to be.

@@ -36,10 +36,15 @@ fn write_any(input: &[u8], out: &mut [u8]) {
 }
 
 // The input has one byte more than is taken, so that one that is too long is seen to be.
+// Two calls of write_any: one that is called once is compiled into main, and then its large list is touched for every input.
 fn main() {
     let mut input = [0u8; 65537];
     let mut out = [0u8; 80000];
     let n = io::read_full(STDIN_FILENO, &mut input);
+    if 65536 < n {
+        write_any(&input[..n], &mut out);
+        return;
+    }
     if !write_usual(&input[..n], &mut out) {
         write_any(&input[..n], &mut out);
     }

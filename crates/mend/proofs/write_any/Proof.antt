@@ -1,4 +1,4 @@
--- `mend::write_any` is safe and ends.
+-- `mend::write_any` is safe and ends. What is asked of its large list is said outright: a search would write it out.
 -- Assumes nothing.
 use mathlib.Core.Path.{sym}
 use Prim.Native.Nat.{ℕ}
