@@ -8,7 +8,7 @@ ghost use Rattle.blocks.specs.Fours.{eighteen, each, listed, first_four, cipher_
 use blowfish::Block;
 
 // Four blocks side by side.
-#[derive(Drop)]
+#[derive(Clone, Copy)]
 struct Four {
     a: Block,
     b: Block,

@@ -28,7 +28,7 @@ fn right(block: u64) -> u32
 }
 
 // A block: the words L and R.
-#[derive(Drop)]
+#[derive(Clone, Copy)]
 pub struct Block {
     pub left: u32,
     pub right: u32,
@@ -127,7 +127,7 @@ pub fn decipher(words: &[u32; 1042], block: u64) -> u64
 }
 
 // Four bytes of the key as a word, and the place after them; the key is read round and round.
-#[derive(Drop)]
+#[derive(Clone, Copy)]
 struct KeyWord {
     word: u32,
     after: usize,

@@ -15,7 +15,7 @@ use forms::Written;
 pub const MOST: usize = 16777216;
 
 // What a part was enciphered to: how many bytes were written, and the number and the count of those that are carried on.
-#[derive(Drop)]
+#[derive(Clone, Copy)]
 pub struct Part {
     pub length: usize,
     pub carried: u64,
@@ -23,7 +23,7 @@ pub struct Part {
 }
 
 // What enciphering a part answers.
-#[derive(Drop)]
+#[derive(Clone, Copy)]
 pub enum PartWritten {
     Done(Part),
     Refused(u32),

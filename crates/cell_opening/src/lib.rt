@@ -11,21 +11,21 @@ ghost use Rattle.cell_opening.specs.Answers.{file_answer, file_lent};
 const PIECE: usize = 1024;
 
 // A file that was opened: how long its text is, and which key was taken, 1 or 2.
-#[derive(Drop)]
+#[derive(Clone, Copy)]
 pub struct OpenedFile {
     pub length: usize,
     pub key: u32,
 }
 
 // What opening answers.
-#[derive(Drop)]
+#[derive(Clone, Copy)]
 pub enum CellFile {
     Opened(OpenedFile),
     Refused(u32),
 }
 
 // What a key gives: right padding and the CRC-32, with the length of the text; another CRC-32; or wrong padding.
-#[derive(Drop)]
+#[derive(Clone, Copy)]
 enum Judged {
     Right(usize),
     OtherCrc,

@@ -13,7 +13,7 @@ use records::finding::Found;
 use tenants::Held;
 
 // What the house is answered: done, with so many records moved, or the tenant's refusal.
-#[derive(Drop)]
+#[derive(Clone, Copy)]
 pub enum Moved {
     Done(u32),
     Refused(u32),

@@ -4,7 +4,7 @@ ghost use Rattle.dates.specs.Calendar.{is_leap, days_in, within, is_date, days_b
 ghost use Rattle.dates.specs.Notice.{days_left, left_of, is_days, notice_of, notice_number};
 
 // What an expiry says today.
-#[derive(Drop)]
+#[derive(Clone, Copy)]
 pub enum Notice {
     Current,
     Soon,
@@ -12,7 +12,7 @@ pub enum Notice {
 }
 
 // How many days ago a date passed, at least one; or how many are left.
-#[derive(Drop)]
+#[derive(Clone, Copy)]
 pub enum DaysLeft {
     Passed(u32),
     Left(u32),

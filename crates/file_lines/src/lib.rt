@@ -11,7 +11,7 @@ use std::num::wrapping_sub_u64;
 pub mod texts; // texts.rt: texts that LF ends
 
 // What stands at a place of a file: a line, with the place of its CR LF; what no CR LF ends; or nothing to read.
-#[derive(Drop)]
+#[derive(Clone, Copy)]
 pub enum LineFound {
     Line(usize),
     Unended,

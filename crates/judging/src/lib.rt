@@ -17,7 +17,7 @@ use tenants::is_last;
 use text::reading::byte_at;
 
 // What judging a book for a tenant finds: from which record on, and up to which, those stand that it reads; or that the book is damaged.
-#[derive(Drop)]
+#[derive(Clone, Copy)]
 pub enum Judged {
     Records { first: u32, past: u32 },
     Damaged,
@@ -168,7 +168,7 @@ fn spare_of(part: &[u8]) -> u32
 }
 
 // Where tenants' parts of the records end, or that something in them is wrong.
-#[derive(Drop)]
+#[derive(Clone, Copy)]
 enum Part {
     Ends(usize),
     Wrong,

@@ -12,7 +12,7 @@ pub mod texts; // texts.rt: values as text, and numbers in words
 
 // A block of eight bytes, and 0; at 103, for a key that has not 4 to 56 bytes, the block is 0.
 #[repr(C)]
-#[derive(Drop)]
+#[derive(Clone, Copy)]
 pub struct Block {
     pub block: u64,
     pub number: u32,

@@ -11,14 +11,14 @@ ghost use Rattle.blowfish.specs.Schedule.{key_number, scheduled};
 ghost use Rattle.probe.specs.Forms.{days_form, unpadded_form};
 
 #[repr(C)]
-#[derive(Drop)]
+#[derive(Clone, Copy)]
 pub struct ProbeDaysLeft {
     pub passed: u32,
     pub days: u32,
 }
 
 #[repr(C)]
-#[derive(Drop)]
+#[derive(Clone, Copy)]
 pub struct ProbeUnpadded {
     pub value: u64,
     pub right: u32,

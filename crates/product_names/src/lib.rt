@@ -26,7 +26,7 @@ const FACTOR3: u64 = 0x1656_67b1_d6e8_feb9;
 const FACTOR4: u64 = 0x85eb_ca77_6659_fd93;
 
 // What looking at a block of rows says: a name stands twice, none does, or the rows from a place on are to be looked at among themselves.
-#[derive(Drop)]
+#[derive(Clone, Copy)]
 enum Block {
     Repeated,
     Over,

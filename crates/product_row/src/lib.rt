@@ -10,7 +10,7 @@ use text::characters::Alphabet;
 mod fields; // fields.rt: fields of each form at a place
 
 // What is taken of a row. Edition 0 is a cancelled cell; a blank update is 0.
-#[derive(Drop)]
+#[derive(Clone, Copy)]
 pub struct Row {
     pub name: u64,
     pub edition: u32,
@@ -18,14 +18,14 @@ pub struct Row {
 }
 
 // What reading a line gives.
-#[derive(Drop)]
+#[derive(Clone, Copy)]
 pub enum Read {
     Cell(Row),
     Wrong,
 }
 
 // What the first six fields give: edition, update and the place after them, which is 0 where one of them is not of its form.
-#[derive(Drop)]
+#[derive(Clone, Copy)]
 struct start_of_four {
     edition: u32,
     update: u32,

@@ -9,7 +9,7 @@ use layout::{RECORD_SIZE, RECORDS_PLACE};
 use tenants::Held;
 
 // Where a cell stands among the records, or where it would go.
-#[derive(Drop)]
+#[derive(Clone, Copy)]
 pub enum Found {
     At(u32),
     Absent(u32),

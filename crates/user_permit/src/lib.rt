@@ -19,7 +19,7 @@ use text::writing::{put_hex, put_raised};
 pub mod register; // register.rt: the manufacturers' M_IDs and M_KEYs
 
 // What a user permit says, or why it is refused.
-#[derive(Drop)]
+#[derive(Clone, Copy)]
 pub enum UserPermit {
     Ship { hw_id: u64, m_id: u32 },
     Refused(u32),

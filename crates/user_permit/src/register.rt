@@ -6,7 +6,7 @@ use octets::numbers::{number16, number40};
 use forms::identifiers::{is_m_id, is_m_key};
 
 // The M_KEY of a manufacturer, or that its M_ID is not in the register.
-#[derive(Drop)]
+#[derive(Clone, Copy)]
 pub enum Maker {
     Key(u64),
     Unknown,
