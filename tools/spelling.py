@@ -14,7 +14,7 @@ import os
 import re
 import sys
 
-TOKEN = re.compile(r"[A-Za-z]\w*(?:['-]+\w+)*'*")
+TOKEN = re.compile(r"(?<![\w])[A-Za-z]\w*(?:['-]+\w+)*'*")
 DECLARED = re.compile(r"^(?:  )?(?:(?:abbrev|unfoldable|pub|record|data|infix\w* \d+) )*([A-Za-z][^\s:(){}]*) (?=[:(])")
 # definitions of the library that names of lemmas join to others
 LIBRARY = set("length take drop set get_or slice_index replicate map sum reverse list_all div mod digits suc zero leb eqb not cond at".split())

@@ -93,7 +93,7 @@ pub fn encipher_file(key: u64, file: &[u8], out: &mut [u8]) -> Written
     ensures { (result ≡ written_of (file_written key file.now (length out.old)))
         × (out.new ≡ lent_after (file_written key file.now (length out.old)) out.old) }
 {
-    if 0x_fF_FFFF_FFFF < key {
+    if 0xFF_FFFF_FFFF < key {
         return Written::Refused(103);
     }
     if MOST < file.len() {
@@ -126,7 +126,7 @@ pub fn encipher_part(key: u64, x: u64, n: u32, part: &[u8], out: &mut [u8]) -> P
     ensures { (result ≡ part_answer (part_written key x n part.now (length out.old)))
         × (out.new ≡ part_lent (part_written key x n part.now (length out.old)) out.old) }
 {
-    if 0x_fF_FFFF_FFFF < key {
+    if 0xFF_FFFF_FFFF < key {
         return PartWritten::Refused(103);
     }
     if MOST < part.len() {
@@ -163,7 +163,7 @@ pub fn encipher_end(key: u64, x: u64, n: u32, out: &mut [u8]) -> Written
     ensures { (result ≡ written_of (end_written key x n (length out.old)))
         × (out.new ≡ lent_after (end_written key x n (length out.old)) out.old) }
 {
-    if 0x_fF_FFFF_FFFF < key {
+    if 0xFF_FFFF_FFFF < key {
         return Written::Refused(103);
     }
     if !is_carried(n, x) {

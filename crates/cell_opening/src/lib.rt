@@ -165,10 +165,10 @@ pub fn open_cell_file(file: &[u8], one: u64, two: u64, crc: u32, out: &mut [u8])
     ensures { (result ≡ file_answer (opened_file file.now one two crc (length out.old)))
         × (out.new ≡ file_lent (opened_file file.now one two crc (length out.old)) out.old) }
 {
-    if 0x_fF_FFFF_FFFF < one {
+    if 0xFF_FFFF_FFFF < one {
         return CellFile::Refused(103);
     }
-    if 0x_fF_FFFF_FFFF < two {
+    if 0xFF_FFFF_FFFF < two {
         return CellFile::Refused(103);
     }
     if cell_file::MOST + 8 < file.len() {

@@ -32,10 +32,10 @@ fn is_held(cell: Held) -> bool
     if 999 < cell.edition {
         return false;
     }
-    if 0x_fF_FFFF_FFFF < cell.key1 {
+    if 0xFF_FFFF_FFFF < cell.key1 {
         return false;
     }
-    if 0x_fF_FFFF_FFFF < cell.key2 {
+    if 0xFF_FFFF_FFFF < cell.key2 {
         return false;
     }
     tenants::is_last(cell.last)

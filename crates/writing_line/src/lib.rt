@@ -19,10 +19,10 @@ pub fn is_cell(cell: Cell) -> bool
     if !dates::is_date(cell.expiry) {
         return false;
     }
-    if 0x_fF_FFFF_FFFF < cell.key1 {
+    if 0xFF_FFFF_FFFF < cell.key1 {
         return false;
     }
-    if 0x_fF_FFFF_FFFF < cell.key2 {
+    if 0xFF_FFFF_FFFF < cell.key2 {
         return false;
     }
     if 1 < cell.level {
