@@ -79,7 +79,7 @@ module _ (key crc : ℕ) (file words : List ℕ) (form : has_blocks file ≡ tru
           ap₂ (λ (k : ℕ) (l : List ℕ). take k l) (ap₂ (λ (a b : ℕ). a - b) (sym all_length) says.1.0) all_is
 
       text_length_lem : length (text_under key file) ≡ length file - n
-      text_length = ap length (sym text-is) ∙ length-take-le (length file - n) (wholes (decipher_of words) file) (omega (arith, ap length all_is, all_length))
+      text_length_lem = ap length (sym text-is) ∙ length-take-le (length file - n) (wholes (decipher_of words) file) (omega (arith, ap length all_is, all_length))
 
       module _ (r : ℕ) (sum : r ≡ crc32_of (take (length file - n) (wholes (decipher_of words) file))) where
         crc-is : r ≡ crc32_of (text_under key file)

@@ -90,7 +90,7 @@ module _ (line : List ℕ) (at : ℕ) where
 
     -- its first byte
     first_place_lem : get_or line (at + 0) 0 ≡ get_or line at 0
-    first_place = let z : at + 0 ≡ at = omega arith in ap (λ (k : ℕ). get_or line k 0) z
+    first_place_lem = let z : at + 0 ≡ at = omega arith in ap (λ (k : ℕ). get_or line k 0) z
 
     pub starts-comma : get_or line at 0 ≡ 44 → field_length line at ≡ 0
     starts-comma e = ends_here 0 (omega arith) (first_place_lem ∙ e)
