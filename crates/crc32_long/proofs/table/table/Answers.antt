@@ -62,5 +62,5 @@ tested t lows highs bytes = record { entry = at }
         ∙ sym (byte_by_digits place n hp hn)
 
 pub returns : goal.returns
-unfolding by-rule by_digits shifts shift
+unfolding by_rule by_digits shifts shift
 returns c = tested _ tt tt tt
