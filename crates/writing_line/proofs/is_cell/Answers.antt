@@ -8,10 +8,10 @@ use Rattle.cell_permit.proofs.GoodCell.{not_cell, by_server}
 use Rattle.writing_line.proofs.is_cell.Goals as goal
 
 pub returns-then-not-is_cell_name : goal.returns-then-not-is_cell_name
-returns-then-not-is_cell_name c = not_cell _ (λ good. let z : ◌≡◌ {A = ℕ} 0 1 = cc (not-true c.is_cell_name.result c.if-not-is_cell_name.true) in omega arith)
+returns-then-not-is_cell_name c = not_cell _ (λ good. let z : ◌≡◌ {A = ℕ} 0 1 = cc c.if-not-is_cell_name.true in omega arith)
 
 pub returns-then-not-is_date : goal.returns-then-not-is_date
-returns-then-not-is_date c = not_cell _ (λ good. let z : ◌≡◌ {A = ℕ} 0 1 = cc (not-true c.is_date.result c.if-not-is_date.true) in omega arith)
+returns-then-not-is_date c = not_cell _ (λ good. let z : ◌≡◌ {A = ℕ} 0 1 = cc c.if-not-is_date.true in omega arith)
 
 pub returns-then-cell-gt1099511627775 : goal.returns-then-cell-gt1099511627775
 returns-then-cell-gt1099511627775 c = not_cell _ (λ good. omega (arith, good.key1, c.if-cell-gt1099511627775.true))

@@ -2,7 +2,6 @@
 -- Assumes nothing.
 use mathlib.Core.Path.{◌≡◌, sym, ◌∙◌}
 use lib.Dec.{eqb}
-use borrow.Author.Tests.{not-true, not-false}
 use Rattle.tenants.specs.declared.Setting.{Setting}
 use Rattle.tenants.specs.Rules.{names_none}
 use Rattle.layout.specs.Layout.{own_in}
@@ -27,9 +26,9 @@ returns-then-not-fits c = let k = (goal.at.returns-then-not-fits c).After-struct
 pub returns-then-branch : goal.returns-then-branch
 returns-then-branch c =
     let k = (goal.at.returns-then-branch c).After-struct_known-1 in
-    bars_branch (start k).args.fits (setting k) (c.if-not-fits.false) (sym (named k) ∙ not-true _ c.if-branch.true)
+    bars_branch (start k).args.fits (setting k) (c.if-not-fits.false) (sym (named k) ∙ c.if-branch.true)
 
 pub returns : goal.returns
 returns c =
     let k = (goal.at.returns c).After-struct_known-1 in
-    bars_none (start k).args.fits (setting k) (c.if-not-fits.false) (sym (named k) ∙ not-false _ c.if-branch.false)
+    bars_none (start k).args.fits (setting k) (c.if-not-fits.false) (sym (named k) ∙ c.if-branch.false)

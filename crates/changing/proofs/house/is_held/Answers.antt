@@ -8,7 +8,7 @@ use Rattle.tenants.proofs.Ranges.{not_fit, by_last}
 use Rattle.changing.proofs.house.is_held.Goals as goal
 
 pub returns-then-not-is_cell_name : goal.returns-then-not-is_cell_name
-returns-then-not-is_cell_name c = not_fit _ (λ fit. let z : ◌≡◌ {A = ℕ} 0 1 = cc (not-true c.is_cell_name.result c.if-not-is_cell_name.true) in omega arith)
+returns-then-not-is_cell_name c = not_fit _ (λ fit. let z : ◌≡◌ {A = ℕ} 0 1 = cc c.if-not-is_cell_name.true in omega arith)
 
 pub returns-then-cell-lt1 : goal.returns-then-cell-lt1
 returns-then-cell-lt1 c = not_fit _ (λ fit. omega (arith, fit.low, c.if-cell-lt1.true))

@@ -37,7 +37,7 @@ module _ (c : After-number_of-date) where
   all = sym (told good) ∙ c.if-not-are_digits.false
 
   is : c.number_of-date.result ≡ decimal_number (bytes_of 8 (number_at 8 (s good) (at good)))
-  is = c.number_of-date.ensures ∙ ap (λ (x : ℕ). decimal_number (bytes_of 8 x)) good.before.number64.ensures
+  is = c.number_of-date.ensures ∙ ap (λ (x : ℕ). decimal_number (bytes_of 8 x)) good.number64-x.ensures
 
 pub returns-then-not-are_digits : goal.returns-then-not-are_digits
 returns-then-not-are_digits c = no_digits (s (goal.at.returns-then-not-are_digits c).After-are_digits) (at (goal.at.returns-then-not-are_digits c).After-are_digits) (sym (told (goal.at.returns-then-not-are_digits c).After-are_digits) ∙ c.if-not-are_digits.true)

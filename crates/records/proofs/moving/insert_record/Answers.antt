@@ -32,7 +32,7 @@ module _ (c : Then-used-book) where
   counted = (goal.at.Then-used-book c).After-count-n
 
   room : used_length counted.count.result + record_size ≤ length counted.before.before.before.args.book.now
-  room = leb-true _ _ c.if-used-book.true
+  room = c.if-used-book.true
 
   inside : record_place counted.before.before.before.args.i ≤ used_length counted.count.result
   inside = omega (arith, c.if-i-n.true)
@@ -57,7 +57,7 @@ pub returns-then-used-book : goal.returns-then-used-book
 returns-then-used-book c =
     let start = c.args in
     put_in start.book.now _ start.i c.count-n.ensures (in_book start.tenant start.cell)
-    c.if-i-n.true (leb-true _ _ c.if-used-book.true) c.open_gap.new.part c.put_record.new.book _
+    c.if-i-n.true (c.if-used-book.true) c.open_gap.new.part c.put_record.new.book _
     c.open_gap.ensures c.put_record.ensures c.put_used.ensures
 
 pub returns-else-i-n : goal.returns-else-i-n

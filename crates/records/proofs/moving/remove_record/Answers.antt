@@ -28,7 +28,7 @@ module _ (c : Then-used-book) where
   counted = (goal.at.Then-used-book c).After-count-n
 
   within : used_length counted.count.result ≤ length counted.before.before.before.args.book.now
-  within = leb-true _ _ c.if-used-book.true
+  within = c.if-used-book.true
 
   inside : record_place counted.before.before.before.args.i + record_size ≤ used_length counted.count.result
   inside = omega (arith, c.if-i-n.true)
@@ -48,7 +48,7 @@ close_gap-requires c = simp (length-take, length-drop) (omega (arith, within (go
 pub returns-then-used-book : goal.returns-then-used-book
 returns-then-used-book c =
     let start = c.args in
-    taken_out start.book.now _ start.i c.count-n.ensures c.if-i-n.true (leb-true _ _ c.if-used-book.true)
+    taken_out start.book.now _ start.i c.count-n.ensures c.if-i-n.true (c.if-used-book.true)
     c.close_gap.new.part _ c.close_gap.ensures c.put_used.ensures
 
 pub returns-else-i-n : goal.returns-else-i-n
