@@ -178,7 +178,7 @@ fn combine(key: &[u8], words: &mut [u32; 1042])
 
 // The zero block enciphered again and again, each result replacing the next two words.
 fn fill(words: &mut [u32; 1042])
-    ensures { words.exit.now ≡ (filled 521 (record { words = words.entry.now; block = 0 })).words }
+    ensures { words.new ≡ (filled 521 (record { words = words.old; block = 0 })).words }
 {
     let mut block: u64 = 0;
     let mut i: usize = 0;
