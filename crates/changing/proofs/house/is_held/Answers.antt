@@ -3,7 +3,6 @@
 use mathlib.Core.Path.{◌≡◌, sym, ◌∙◌}
 use Prim.Native.Nat.{ℕ}
 use native.Mathlib.Omega.{arith}
-use borrow.Author.Tests.{not-true}
 use Rattle.tenants.proofs.Ranges.{not_fit, by_last}
 use Rattle.changing.proofs.house.is_held.Goals as goal
 
