@@ -19,7 +19,7 @@ use Rattle.text.specs.Texts.{placed}
 use Rattle.text.proofs.PlacedTexts.{placed_start}
 use Rattle.blowfish.specs.Cipher.{encipher_of}
 use Rattle.blocks.specs.Blocks.{each_block, blocks_put}
-use Rattle.blocks.proofs.EachBlocks.{each-block-length}
+use Rattle.blocks.proofs.EachBlocks.{each_block-length}
 use Rattle.blocks.proofs.BackAgain.{one_block}
 use Rattle.blocks.proofs.Puts.{put_next}
 use Rattle.cell_file.specs.Enciphering.{most, cell_words, enciphered, is_carried, PartOutput, blocks, refused, carried_on, part_written}
@@ -88,7 +88,7 @@ module _ (n x : ℕ) (part : List ℕ) (few : n ≤ 7) (fits : x < 256 ^ n) (eno
         let f = encipher_of words in
         let t = each_block f ((n + length part) / 8) (bytes_of n x ++ part) in
         let eight : length block ≡ 8 = ap length b ∙ digits-length 256 8 (f y) in
-        let size : length t ≡ 8 * ((n + length part) / 8) = each-block-length f ((n + length part) / 8) (bytes_of n x ++ part) in
+        let size : length t ≡ 8 * ((n + length part) / 8) = each_block-length f ((n + length part) / 8) (bytes_of n x ++ part) in
         let rest : length tail ≡ length part - (8 - n) = ap length tail_is ∙ length-drop (8 - n) part in
         let pieces : block ++ each_block f (length tail / 8) tail ≡ t = ap (λ (l : List ℕ). l ++ each_block f (length tail / 8) tail) b ∙ sym (both-pieces f) in
         ap (λ (l : List ℕ). take 8 o ++ (l ++ drop (length o - 8) (drop 8 o))) put

@@ -15,7 +15,7 @@ use Rattle.text.proofs.PlacedTexts.{placed_start, placed-next}
 use Rattle.crc32.specs.Crc32.{crc32_of}
 use Rattle.blowfish.specs.Cipher.{decipher_of}
 use Rattle.blocks.specs.Blocks.{each_block, blocks_put}
-use Rattle.blocks.proofs.EachBlocks.{each-block-length}
+use Rattle.blocks.proofs.EachBlocks.{each_block-length}
 use Rattle.blocks.proofs.Cuts.{each_before}
 use Rattle.blocks.proofs.Puts.{put_start}
 use Rattle.cell_file.specs.Enciphering.{most, cell_words}
@@ -52,7 +52,7 @@ module _ (key crc : ℕ) (file words : List ℕ) (form : has_blocks file ≡ tru
 
   pub all_length : length (deciphered key file) ≡ length file
   unfolding deciphered
-  all_length = let says = blocks_say file form in each-block-length (decipher_of (cell_words key)) (length file / 8) file ∙ omega (arith, says.1)
+  all_length = let says = blocks_say file form in each_block-length (decipher_of (cell_words key)) (length file / 8) file ∙ omega (arith, says.1)
 
   module _ (n : ℕ) (eight zeros : List ℕ) (size : length zeros ≡ 8)
       (put : eight ≡ blocks_put (decipher_of words) (take (length file - (length file - 8)) (drop (length file - 8) file)) zeros) (found : n ≡ padding_in eight) where
