@@ -1,11 +1,11 @@
 -- What is enciphered in two pieces, the second after what the first carried on, is what is enciphered at once.
 -- Assumes nothing.
-use mathlib.Core.Path.{◌≡◌, refl, sym, ap, ap₂, ◌∙◌}
+use mathlib.Core.Path.{◌≡◌, sym, ap, ap₂, ◌∙◌}
 use mathlib.Core.List.{List, ◌++◌, append_assoc}
-use Prim.Native.Nat.{ℕ, ◌+◌, ◌-◌, ◌*◌, ◌/◌, ◌%◌, ◌≤◌, ◌<◌}
+use Prim.Native.Nat.{ℕ, ◌+◌, ◌*◌, ◌/◌, ◌%◌}
 use native.Mathlib.Omega.{arith}
 use lib.ListN.{length, drop, replicate, length-append, length-drop, length-replicate}
-use lib.Seq.{drop-append-le, drop-drop}
+use lib.Seq.{drop-append-le}
 use Rattle.blowfish.specs.Cipher.{encipher_of}
 use Rattle.blocks.specs.Blocks.{each_block}
 use Rattle.blocks.proofs.EachBlocks.{each_block-length}
