@@ -1,4 +1,6 @@
 // Cell files enciphered under a cell key, whole or part by part. Blocks do not depend on each other, so a file may be cut anywhere.
+#![tactic(auto)]
+
 ghost use Rattle.std.specs.Prelude.{◌≡◌, ◌++◌, ◌+◌, ◌-◌, ◌*◌, ◌/◌, ◌^◌, ◌≤◌, ◌<◌, length};
 ghost use Rattle.octets.specs.Numbers.{bytes_of, bytes_number};
 ghost use Rattle.octets.specs.Padding.{pad_of};

@@ -1,4 +1,6 @@
 // Cell files opened: by two cell keys and the CRC-32 of what was enciphered. A key's padding and CRC-32 are judged before anything is written.
+#![tactic(auto)]
+
 ghost use Rattle.std.specs.Prelude.{◌≡◌, true, ◌++◌, ◌+◌, ◌-◌, ◌*◌, ◌/◌, ◌%◌, ◌≤◌, ◌<◌, min, eqb, leb, length, take, drop};
 ghost use Rattle.crc32.specs.Crc32.{feed_all, crc32_of};
 ghost use Rattle.blowfish.specs.Cipher.{decipher_of};

@@ -1,4 +1,6 @@
 // A line written: a cell permit with its service level, edition, Data Server ID and an empty comment, and CR LF.
+#![tactic(auto)]
+
 ghost use Rattle.std.specs.Prelude.{◌≡◌, true, [], ◌∷◌, ◌++◌, ◌+◌, ◌≤◌, length};
 ghost use Rattle.octets.specs.Numbers.{bytes_of};
 ghost use Rattle.text.specs.Characters.{decimal_text};

@@ -1,5 +1,5 @@
 -- `blowfish::combine` meets its contract. The invariant: i words are combined, and the key's place is that of the byte 4 * i.
-use Rattle.std.proofs.Common.{◌≡◌, ℕ, ◌+◌, ◌-◌, ◌*◌, ◌%◌, length, get_or, set, sym, refl, ap, ◌∙◌, add-one, arith, rules}
+use Rattle.std.proofs.Common.{◌≡◌, ℕ, ◌+◌, ◌*◌, ◌%◌, length, get_or, set, sym, refl, ap, ◌∙◌, add-one, arith, rules}
 use native.Mathlib.Nat.{zero-mod, mod-add-mod}
 use lib.Bits.{bit_xor}
 use Rattle.blowfish.specs.Schedule.{key_word, combined, keyed}

@@ -1,5 +1,5 @@
 -- `blowfish::fill` meets its contract. The invariant: i pairs of words are replaced.
-use Rattle.std.proofs.Common.{◌≡◌, ℕ, ◌+◌, ◌-◌, ◌*◌, set, sym, refl, ap, ◌∙◌, ap₂, add-one, arith, rules}
+use Rattle.std.proofs.Common.{◌≡◌, ℕ, ◌+◌, ◌*◌, set, sym, refl, ap, ◌∙◌, ap₂, add-one, arith, rules}
 use Rattle.blowfish.specs.Schedule.{Filling, put, next, filled}
 use Rattle.blowfish.proofs.fill.Goals as goal
 

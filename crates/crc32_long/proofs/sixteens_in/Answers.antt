@@ -1,10 +1,9 @@
 -- `crc32_long::sixteens_in` meets its contract. The invariant: what remains after i sixteens, fed where the four streams stand, gives what the whole gives.
 use mathlib.Core.Path.{◌≡◌, ap, ◌∙◌}
-use Prim.Native.Nat.{ℕ, ◌+◌, ◌-◌, ◌*◌, ◌/◌}
+use Prim.Native.Nat.{ℕ, ◌+◌, ◌*◌, ◌/◌}
 use native.Mathlib.Omega.{arith}
 use lib.ListN.{length, drop}
 use Rattle.crc32.specs.Crc32.{feed_all}
-use Rattle.crc32_long.specs.Streams.{four_in}
 use Rattle.crc32_long.proofs.Sixteens.{turn_in}
 use borrow.Author.Rules.{rules}
 use Rattle.crc32_long.proofs.sixteens_in.Goals as goal
