@@ -1,4 +1,6 @@
 // Many blocks under one key, four at a time: blocks do not depend on each other, and the processor works on several at once.
+#![tactic(auto)]
+
 ghost use Rattle.std.specs.Prelude.{◌≡◌, ◌+◌, ◌*◌, ◌≤◌, length};
 ghost use Rattle.octets.specs.Places.{number_at};
 ghost use Rattle.blowfish.specs.Cipher.{F, P, far_end, round, finish, cipher, block_of, block_number, encipher_of, decipher_of};
@@ -8,7 +10,7 @@ ghost use Rattle.blocks.specs.Fours.{eighteen, each, listed, first_four, cipher_
 use blowfish::Block;
 
 // Four blocks side by side.
-#[derive(Drop)]
+#[derive(Clone, Copy)]
 struct Four {
     a: Block,
     b: Block,

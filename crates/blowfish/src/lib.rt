@@ -1,5 +1,7 @@
 // Blowfish: a key's words, and enciphering and deciphering a block with them.
 // The words stand in one array: P1 to P18, then S1, S2, S3 and S4 of 256 each. Whoever holds a key's words lends them to each call.
+#![tactic(auto)]
+
 ghost use Rattle.std.specs.Prelude.{◌≡◌, ◌+◌, ◌*◌, ◌/◌, ◌%◌, ◌^◌, ◌<◌, length};
 ghost use Rattle.blowfish.specs.Cipher.{F, block, exchange, round, finish, block_of, block_number, encipher_of, decipher_of};
 ghost use Rattle.blowfish.specs.Schedule.{key_word, keyed, filled, key_number, scheduled};
@@ -28,7 +30,7 @@ fn right(block: u64) -> u32
 }
 
 // A block: the words L and R.
-#[derive(Drop)]
+#[derive(Clone, Copy)]
 pub struct Block {
     pub left: u32,
     pub right: u32,
@@ -127,7 +129,7 @@ pub fn decipher(words: &[u32; 1042], block: u64) -> u64
 }
 
 // Four bytes of the key as a word, and the place after them; the key is read round and round.
-#[derive(Drop)]
+#[derive(Clone, Copy)]
 struct KeyWord {
     word: u32,
     after: usize,
@@ -176,7 +178,7 @@ fn combine(key: &[u8], words: &mut [u32; 1042])
 
 // The zero block enciphered again and again, each result replacing the next two words.
 fn fill(words: &mut [u32; 1042])
-    ensures { words.exit.now ≡ (filled 521 (record { words = words.entry.now; block = 0 })).words }
+    ensures { words.new ≡ (filled 521 (record { words = words.old; block = 0 })).words }
 {
     let mut block: u64 = 0;
     let mut i: usize = 0;

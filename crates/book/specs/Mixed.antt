@@ -68,7 +68,7 @@ MixingInOrder =
 -- neither of two tenants is the other's principal: they share no list, or are two branches of one
 pub record Apart (s : List ℕ) (t u : ℕ) : Type 0 where
   pub two : t ≡ u → ⊥
-  pub no_branch_lem : list_in s t ≡ u → ⊥
+  pub no_branch : list_in s t ≡ u → ⊥
   pub no_principal : list_in s u ≡ t → ⊥
 
 -- their calls may change places: the final books and all answers are equal

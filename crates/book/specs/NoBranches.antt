@@ -23,23 +23,23 @@ NoBranches s = (t : ℕ) → names_none (own_in s t).setting ≡ true
 -- the statements as they stood; those that have not changed, or say one fact more, are not repeated
 pub record AsBefore (s : List ℕ) : Type 0 where
   pub mixing : (some others : List Made) → SameOwnCalls some others → after_all some s ≡ after_all others s
-  pub own_answers_lem : (made : List Made) (t : ℕ) → answers_to t made s ≡ answers_alone t (calls_of t made) (own_in s t)
-  pub nothing_else_lem : (s' : List ℕ) (t : ℕ) (call : Call) → is_book s' ≡ true → own_in s t ≡ own_in s' t → answer_in t call s ≡ answer_in t call s'
-  pub others_untouched_lem : (t u : ℕ) (call : Call) → (u ≡ t → ⊥) → own_in (book_after t call s) u ≡ own_in s u
-  pub enter_done_lem : (t : ℕ) (cell : Held) → change_number (entry s t cell) ≡ 0
+  pub own_answers : (made : List Made) (t : ℕ) → answers_to t made s ≡ answers_alone t (calls_of t made) (own_in s t)
+  pub nothing_else : (s' : List ℕ) (t : ℕ) (call : Call) → is_book s' ≡ true → own_in s t ≡ own_in s' t → answer_in t call s ≡ answer_in t call s'
+  pub others_untouched : (t u : ℕ) (call : Call) → (u ≡ t → ⊥) → own_in (book_after t call s) u ≡ own_in s u
+  pub enter_done : (t : ℕ) (cell : Held) → change_number (entry s t cell) ≡ 0
       → GivesCell (entered_book s t cell) t (own_in s t).setting cell
       × (((name : ℕ) → (name ≡ cell.name → ⊥) → GivesTheSame s (entered_book s t cell) t name)
       × ((own_in (entered_book s t cell) t).setting ≡ (own_in s t).setting))
-  pub withdraw_done_lem : (t name : ℕ) → change_number (withdrawal s t name) ≡ 0
+  pub withdraw_done : (t name : ℕ) → change_number (withdrawal s t name) ≡ 0
       → GivesNothing (withdrawn_book s t name) t name
       × (((other : ℕ) → (other ≡ name → ⊥) → GivesTheSame s (withdrawn_book s t name) t other)
       × ((own_in (withdrawn_book s t name) t).setting ≡ (own_in s t).setting))
-  pub quota_decides_lem : (t : ℕ) (cell : Held) → is_tenant t ≡ true → is_held cell ≡ true → cell_of cell.name (own_in s t).cells ≡ none
+  pub quota_decides : (t : ℕ) (cell : Held) → is_tenant t ≡ true → is_held cell ≡ true → cell_of cell.name (own_in s t).cells ≡ none
       → ((own_in s t).setting.quota ≤ length (own_in s t).cells → entry s t cell ≡ refuses 105)
       × (length (own_in s t).cells < (own_in s t).setting.quota → entry s t cell ≡ enters cell)
-  pub held_replaced_lem : (t : ℕ) (cell old : Held) → is_tenant t ≡ true → is_held cell ≡ true → cell_of cell.name (own_in s t).cells ≡ some old
+  pub held_replaced : (t : ℕ) (cell old : Held) → is_tenant t ≡ true → is_held cell ≡ true → cell_of cell.name (own_in s t).cells ≡ some old
       → entry s t cell ≡ enters cell
-  pub as_every_record_lem : (t producer : ℕ) → is_tenant t ≡ true → is_producer producer ≡ true
+  pub as_every_record : (t producer : ℕ) → is_tenant t ≡ true → is_producer producer ≡ true
       → holding_in s t producer ≡ Any (any_record t producer (book_of s).records)
 
 -- where no tenant is a branch they hold

@@ -1,4 +1,6 @@
 // Carrying over: a version 1 book's settings and cells, written as a version 2 book.
+#![tactic(auto)]
+
 ghost use Rattle.std.specs.Prelude.{◌≡◌, true, ◌++◌, ◌+◌, ◌≤◌, length};
 ghost use Rattle.text.specs.Texts.{placed};
 ghost use Rattle.forms.specs.Output.{written_number, written_of, lent_after};

@@ -30,7 +30,7 @@ use Rattle.cell_file.proofs.Pieces.{file_pieces, rest_enciphered, last_enciphere
 
 -- the largest cell key
 abbrev pub largest : ℕ
-largest = 0x_fFFFFFFFFF
+largest = 0xFFFFFFFFFF
 
 pub is_key_lem : (key : ℕ) → key ≤ largest → is_cell_key key ≡ true
 is_key_lem key h = lt-ltb key (256 ^ 5) (omega arith)

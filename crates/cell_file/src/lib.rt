@@ -1,4 +1,6 @@
 // Cell files enciphered under a cell key, whole or part by part. Blocks do not depend on each other, so a file may be cut anywhere.
+#![tactic(auto)]
+
 ghost use Rattle.std.specs.Prelude.{◌≡◌, ◌++◌, ◌+◌, ◌-◌, ◌*◌, ◌/◌, ◌^◌, ◌≤◌, ◌<◌, length};
 ghost use Rattle.octets.specs.Numbers.{bytes_of, bytes_number};
 ghost use Rattle.octets.specs.Padding.{pad_of};
@@ -15,7 +17,7 @@ use forms::Written;
 pub const MOST: usize = 16777216;
 
 // What a part was enciphered to: how many bytes were written, and the number and the count of those that are carried on.
-#[derive(Drop)]
+#[derive(Clone, Copy)]
 pub struct Part {
     pub length: usize,
     pub carried: u64,
@@ -23,7 +25,7 @@ pub struct Part {
 }
 
 // What enciphering a part answers.
-#[derive(Drop)]
+#[derive(Clone, Copy)]
 pub enum PartWritten {
     Done(Part),
     Refused(u32),
@@ -93,7 +95,7 @@ pub fn encipher_file(key: u64, file: &[u8], out: &mut [u8]) -> Written
     ensures { (result ≡ written_of (file_written key file.now (length out.old)))
         × (out.new ≡ lent_after (file_written key file.now (length out.old)) out.old) }
 {
-    if 0x_fF_FFFF_FFFF < key {
+    if 0xFF_FFFF_FFFF < key {
         return Written::Refused(103);
     }
     if MOST < file.len() {
@@ -126,7 +128,7 @@ pub fn encipher_part(key: u64, x: u64, n: u32, part: &[u8], out: &mut [u8]) -> P
     ensures { (result ≡ part_answer (part_written key x n part.now (length out.old)))
         × (out.new ≡ part_lent (part_written key x n part.now (length out.old)) out.old) }
 {
-    if 0x_fF_FFFF_FFFF < key {
+    if 0xFF_FFFF_FFFF < key {
         return PartWritten::Refused(103);
     }
     if MOST < part.len() {
@@ -163,7 +165,7 @@ pub fn encipher_end(key: u64, x: u64, n: u32, out: &mut [u8]) -> Written
     ensures { (result ≡ written_of (end_written key x n (length out.old)))
         × (out.new ≡ lent_after (end_written key x n (length out.old)) out.old) }
 {
-    if 0x_fF_FFFF_FFFF < key {
+    if 0xFF_FFFF_FFFF < key {
         return Written::Refused(103);
     }
     if !is_carried(n, x) {

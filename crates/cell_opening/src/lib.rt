@@ -1,4 +1,6 @@
 // Cell files opened: by two cell keys and the CRC-32 of what was enciphered. A key's padding and CRC-32 are judged before anything is written.
+#![tactic(auto)]
+
 ghost use Rattle.std.specs.Prelude.{◌≡◌, true, ◌++◌, ◌+◌, ◌-◌, ◌*◌, ◌/◌, ◌%◌, ◌≤◌, ◌<◌, min, eqb, leb, length, take, drop};
 ghost use Rattle.crc32.specs.Crc32.{feed_all, crc32_of};
 ghost use Rattle.blowfish.specs.Cipher.{decipher_of};
@@ -11,21 +13,21 @@ ghost use Rattle.cell_opening.specs.Answers.{file_answer, file_lent};
 const PIECE: usize = 1024;
 
 // A file that was opened: how long its text is, and which key was taken, 1 or 2.
-#[derive(Drop)]
+#[derive(Clone, Copy)]
 pub struct OpenedFile {
     pub length: usize,
     pub key: u32,
 }
 
 // What opening answers.
-#[derive(Drop)]
+#[derive(Clone, Copy)]
 pub enum CellFile {
     Opened(OpenedFile),
     Refused(u32),
 }
 
 // What a key gives: right padding and the CRC-32, with the length of the text; another CRC-32; or wrong padding.
-#[derive(Drop)]
+#[derive(Clone, Copy)]
 enum Judged {
     Right(usize),
     OtherCrc,
@@ -165,10 +167,10 @@ pub fn open_cell_file(file: &[u8], one: u64, two: u64, crc: u32, out: &mut [u8])
     ensures { (result ≡ file_answer (opened_file file.now one two crc (length out.old)))
         × (out.new ≡ file_lent (opened_file file.now one two crc (length out.old)) out.old) }
 {
-    if 0x_fF_FFFF_FFFF < one {
+    if 0xFF_FFFF_FFFF < one {
         return CellFile::Refused(103);
     }
-    if 0x_fF_FFFF_FFFF < two {
+    if 0xFF_FFFF_FFFF < two {
         return CellFile::Refused(103);
     }
     if cell_file::MOST + 8 < file.len() {

@@ -86,7 +86,7 @@ module _ (f : LineFields) (are : AreFields f) where
         dated = text_written_lem decimal 8 f.expiry;
         one_hex = are.key1.hex;
         two_hex = are.key2.hex;
-        check_hex_lem = are.check.hex;
+        check_hex = are.check.hex;
       })
       (rw date_number are.expiry)
 

@@ -75,7 +75,7 @@ pub not_cell : (cell : Cell) → (Good cell → ⊥) → false ≡ is_cell cell
 not_cell cell wrong = either (is_cell cell) (λ good. absurd (wrong (good_cell cell good))) (λ bad. sym bad)
 
 -- the Data Server ID decides where all else is good
-pub by_server : (cell : Cell) → is_cell_name cell.name ≡ true → is_date cell.expiry ≡ true → cell.key1 ≤ 0x_fF_FFFF_FFFF → cell.key2 ≤ 0x_fF_FFFF_FFFF
+pub by_server : (cell : Cell) → is_cell_name cell.name ≡ true → is_date cell.expiry ≡ true → cell.key1 ≤ 0xFF_FFFF_FFFF → cell.key2 ≤ 0xFF_FFFF_FFFF
     → cell.level ≤ 1 → 1 ≤ cell.edition → cell.edition ≤ 999 → is_server_id cell.server ≡ is_cell cell
 unfolding is_cell
 by_server cell name date one two level low high =

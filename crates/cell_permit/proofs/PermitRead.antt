@@ -19,7 +19,7 @@ pub record Written (name date one two check : List ℕ) : Type 0 where
   pub dated : all_of is_digit date ≡ true
   pub one_hex : all_of is_hex one ≡ true
   pub two_hex : all_of is_hex two ≡ true
-  pub check_hex_lem : all_of is_hex check ≡ true
+  pub check_hex : all_of is_hex check ≡ true
 
 module _ {s : List ℕ} (name date one two check tail : List ℕ) (from : From s 0 (name ++ (date ++ (one ++ (two ++ (check ++ tail))))))
     (sizes : Sizes name date one two check) where

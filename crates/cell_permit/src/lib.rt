@@ -1,4 +1,6 @@
 // A line of PERMIT.TXT: a cell permit with its service level, edition, Data Server ID and comment.
+#![tactic(auto)]
+
 ghost use Rattle.std.specs.Prelude.{◌≡◌, ◌≤◌, length, get_or};
 ghost use Rattle.octets.specs.Places.{point_at};
 ghost use Rattle.text.specs.Characters.{raised_text, is_digit};
@@ -11,7 +13,7 @@ use octets::numbers::Reading;
 use text::characters::Alphabet;
 
 // What a line is written from.
-#[derive(Drop)]
+#[derive(Clone, Copy)]
 pub struct Cell {
     pub name: u64,
     pub key1: u64,
@@ -23,7 +25,7 @@ pub struct Cell {
 }
 
 // What a line says, with its notice.
-#[derive(Drop)]
+#[derive(Clone, Copy)]
 pub struct Record {
     pub name: u64,
     pub key1: u64,
@@ -36,21 +38,21 @@ pub struct Record {
 }
 
 // What reading a line answers.
-#[derive(Drop)]
+#[derive(Clone, Copy)]
 pub enum Line {
     Record(Record),
     Refused(u32),
 }
 
 // Where a comment begins.
-#[derive(Drop)]
+#[derive(Clone, Copy)]
 pub enum CommentPlace {
     At(usize),
     None,
 }
 
 // The parts of a permit, the three cipher parts as blocks.
-#[derive(Drop)]
+#[derive(Clone, Copy)]
 struct PermitParts {
     name: u64,
     block1: u64,
@@ -60,14 +62,14 @@ struct PermitParts {
 }
 
 // A permit taken apart, or that it is none.
-#[derive(Drop)]
+#[derive(Clone, Copy)]
 enum Permit {
     Parts(PermitParts),
     Wrong,
 }
 
 // The parts of the fields after the permit.
-#[derive(Drop)]
+#[derive(Clone, Copy)]
 struct FieldParts {
     level: u32,
     edition: u32,
@@ -75,14 +77,14 @@ struct FieldParts {
 }
 
 // The fields taken apart, or that they are none.
-#[derive(Drop)]
+#[derive(Clone, Copy)]
 enum Fields {
     Parts(FieldParts),
     Wrong,
 }
 
 // The parts of a line that has the shape, the three cipher parts as blocks.
-#[derive(Drop)]
+#[derive(Clone, Copy)]
 struct Parts {
     name: u64,
     block1: u64,
@@ -95,7 +97,7 @@ struct Parts {
 }
 
 // A line taken apart, or that it has not the shape.
-#[derive(Drop)]
+#[derive(Clone, Copy)]
 enum Shape {
     Line(Parts),
     Wrong,

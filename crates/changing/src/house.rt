@@ -13,7 +13,7 @@ use records::finding::Found;
 use tenants::Held;
 
 // What the house is answered: done, with so many records moved, or the tenant's refusal.
-#[derive(Drop)]
+#[derive(Clone, Copy)]
 pub enum Moved {
     Done(u32),
     Refused(u32),
@@ -32,10 +32,10 @@ fn is_held(cell: Held) -> bool
     if 999 < cell.edition {
         return false;
     }
-    if 0x_fF_FFFF_FFFF < cell.key1 {
+    if 0xFF_FFFF_FFFF < cell.key1 {
         return false;
     }
-    if 0x_fF_FFFF_FFFF < cell.key2 {
+    if 0xFF_FFFF_FFFF < cell.key2 {
         return false;
     }
     tenants::is_last(cell.last)

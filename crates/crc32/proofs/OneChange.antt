@@ -98,7 +98,7 @@ at_place (x ∷ s) (y ∷ t) (suc i) c hs ht hc d e =
     let same : x ≡ y = d.elsewhere zero (λ p. omega arith) in
     at_place s t i (feed c y) (λ k. hs (suc k)) (λ k. ht (suc k)) (feed_word c y hc (ht zero))
     (record {
-      one_length_lem = omega (arith, d.one_length);
+      one_length = omega (arith, d.one_length);
       within = le_of_suc-le-suc d.within;
       there = d.there;
       elsewhere = λ k h. d.elsewhere (suc k) (λ p. h (omega arith));

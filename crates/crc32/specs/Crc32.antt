@@ -4,11 +4,11 @@ use Rattle.std.specs.Int.Bits.{bit_xor}
 
 -- the polynomial, its bits in the reflected order
 abbrev pub polynomial : ℕ
-polynomial = 0x_eDB88320
+polynomial = 0xEDB88320
 
 -- the start, and what complements
 abbrev pub all_ones : ℕ
-all_ones = 0x_fFFFFFFF
+all_ones = 0xFFFFFFFF
 
 -- one bit goes out at the low end; where it is 1 the polynomial is combined in
 unfoldable pub shift : ℕ → ℕ

@@ -5,7 +5,7 @@ use Rattle.crc32.specs.Crc32.{crc32_of}
 
 -- s and t have one length and differ at i and nowhere else
 pub record DifferAt (i : ℕ) (s t : List ℕ) : Type 0 where
-  pub one_length_lem : length s ≡ length t
+  pub one_length : length s ≡ length t
   pub within : i < length s
   pub there : get_or s i 0 ≡ get_or t i 0 → ⊥
   pub elsewhere : (k : ℕ) → (k ≡ i → ⊥) → get_or s k 0 ≡ get_or t k 0

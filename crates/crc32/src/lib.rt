@@ -1,4 +1,6 @@
 // CRC-32 of a slice, four bytes at a time by a table of hex digits. The table is small since a constant is copied at each call.
+#![tactic(auto)]
+
 ghost use Rattle.std.specs.Prelude.{◌≡◌, ◌+◌, ◌*◌, ◌/◌, ◌%◌, ◌^◌, ◌<◌, length, drop};
 ghost use Rattle.crc32.specs.Crc32.{shifts, feed, feed_all, crc32_of};
 ghost use Rattle.crc32.specs.Table.{digit_out, IsTable};

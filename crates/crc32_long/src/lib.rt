@@ -1,4 +1,6 @@
 // CRC-32 of long texts, sixteen bytes at a time: four streams of words, which do not depend on each other, so that the processor works on several at once.
+#![tactic(auto)]
+
 ghost use Rattle.std.specs.Prelude.{◌≡◌, ◌+◌, ◌*◌, ◌/◌, ◌%◌, ◌≤◌, ◌<◌, length, drop};
 ghost use Rattle.std.specs.Int.Bits.{bit_xor};
 ghost use Rattle.crc32.specs.Crc32.{shifts, feed_all, crc32_of};

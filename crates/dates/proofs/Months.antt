@@ -2,7 +2,7 @@
 -- Assumes nothing.
 use mathlib.Core.Path.{◌≡◌, refl, sym}
 use mathlib.Core.Logic.{◌⊎◌, inl, inr, ⊎_elim}
-use mathlib.Core.Bool.{Bool, true, false, cond, ◌&&◌, ◌||◌, and_true}
+use mathlib.Core.Bool.{Bool, true, false, cond, ◌&&◌, ◌||◌, and-true}
 use mathlib.Core.List.{List, [], ◌∷◌}
 use Prim.Native.Nat.{ℕ, zero, suc, ◌+◌, ◌-◌, ◌*◌, ◌/◌, ◌≤◌, ◌<◌}
 use native.Mathlib.Nat.{eq-or-lt_of_le}
@@ -52,7 +52,7 @@ module _ (y m : ℕ) (low : 1 ≤ m) (high : m ≤ 12) where
   -- every month has 28 days
   pub early_day : (d : ℕ) → d < 29 → within 1 (days_in y m) d ≡ leb 1 d
   unfolding within
-  early_day d early = rw (le-leb d (days_in y m) (omega (arith, month_long.0)), and_true (leb 1 d))
+  early_day d early = rw (le-leb d (days_in y m) (omega (arith, month_long.0)), and-true (leb 1 d))
 
 pub late_day : (n d : ℕ) → 29 ≤ d → within 1 n d ≡ leb d n
 unfolding within

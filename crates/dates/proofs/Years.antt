@@ -1,6 +1,6 @@
 -- Leap years in the code's order of tests, and that each year begins where the one before ends. Assumes nothing.
 use mathlib.Core.Path.{◌≡◌}
-use mathlib.Core.Bool.{true, false, and_true, and-false, or-true, or-false}
+use mathlib.Core.Bool.{true, false, and-true, and-false, or-true, or-false}
 use Prim.Native.Nat.{ℕ, ◌+◌, ◌-◌, ◌*◌, ◌/◌, ◌%◌, ◌<◌, ◌≤◌}
 use native.Mathlib.Decide.{ℕ_discrete}
 use native.Mathlib.Nat.{div-add-mod', mod-lt, add-mul}
@@ -43,7 +43,7 @@ module _ (y : ℕ) where
 
   pub leap_4 : (y % 400 ≡ 0 → ⊥) → (y % 100 ≡ 0 → ⊥) → is_leap y ≡ eqb (y % 4) 0
   unfolding is_leap
-  leap_4 n m = rw (ne_eqb _ _ n, ne_eqb _ _ m, and_true, or-false)
+  leap_4 n m = rw (ne_eqb _ _ n, ne_eqb _ _ m, and-true, or-false)
 
   -- so the difference that counts the leap years does not stop at 0
   fewer_hundreds : multiples_below 100 y ≤ multiples_below 4 y

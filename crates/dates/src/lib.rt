@@ -1,10 +1,12 @@
 // Dates, each a number YYYYMMDD: which numbers are dates, day numbers, the days left, and the notice that they give.
+#![tactic(auto)]
+
 ghost use Rattle.std.specs.Prelude.{◌≡◌, ◌≤◌};
 ghost use Rattle.dates.specs.Calendar.{is_leap, days_in, within, is_date, days_before_month, day_number};
 ghost use Rattle.dates.specs.Notice.{days_left, left_of, is_days, notice_of, notice_number};
 
 // What an expiry says today.
-#[derive(Drop)]
+#[derive(Clone, Copy)]
 pub enum Notice {
     Current,
     Soon,
@@ -12,7 +14,7 @@ pub enum Notice {
 }
 
 // How many days ago a date passed, at least one; or how many are left.
-#[derive(Drop)]
+#[derive(Clone, Copy)]
 pub enum DaysLeft {
     Passed(u32),
     Left(u32),

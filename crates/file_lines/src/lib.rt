@@ -1,4 +1,6 @@
 // What PERMIT.TXT and PRODUCTS.TXT have in common: lines that CR LF ends, :ECS, and the date and time at the start.
+#![tactic(auto)]
+
 ghost use Rattle.std.specs.Prelude.{◌≡◌, ◌≤◌, true, length, nat_lt};
 ghost use Rattle.octets.specs.Numbers.{bytes_of};
 ghost use Rattle.octets.specs.Every.{all_of};
@@ -11,7 +13,7 @@ use std::num::wrapping_sub_u64;
 pub mod texts; // texts.rt: texts that LF ends
 
 // What stands at a place of a file: a line, with the place of its CR LF; what no CR LF ends; or nothing to read.
-#[derive(Drop)]
+#[derive(Clone, Copy)]
 pub enum LineFound {
     Line(usize),
     Unended,

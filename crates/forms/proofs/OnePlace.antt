@@ -61,7 +61,7 @@ module _ {i : ℕ} {s t : List ℕ} (d : DifferAt i s t) (n at : ℕ) (within : 
     pub part-differs : DifferAt (i - at) (part n s at) (part n t at)
     part-differs =
         record {
-          one_length_lem = one_length_lem;
+          one_length = one_length_lem;
           within = omega (arith, part_length n s at within);
           there = there;
           elsewhere = λ k away.
@@ -74,7 +74,7 @@ module _ {i : ℕ} {s t : List ℕ} (d : DifferAt i s t) (n at : ℕ) (within : 
 pub raised_differ : {i : ℕ} {s t : List ℕ} → DifferAt i s t → (raised (get_or s i 0) ≡ raised (get_or t i 0) → ⊥) → DifferAt i (raised_text s) (raised_text t)
 raised_differ {i} {s} {t} d more =
     record {
-      one_length_lem = length-map s raised ∙ d.one_length ∙ sym (length-map t raised);
+      one_length = length-map s raised ∙ d.one_length ∙ sym (length-map t raised);
       within = simp length-map d.within;
       there = λ e. more (sym (raised_at s i) ∙ e ∙ raised_at t i);
       elsewhere = λ k away. raised_at s k ∙ ap raised (d.elsewhere k away) ∙ sym (raised_at t k);

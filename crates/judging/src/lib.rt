@@ -1,4 +1,6 @@
 // Judging a book: whether its bytes are undamaged, and where the records stand that a tenant reads.
+#![tactic(auto)]
+
 ghost use Rattle.std.specs.Prelude.{◌≡◌, true, cond, ◌-◌, ◌/◌, ◌%◌, ◌≤◌, ◌<◌, leb, length};
 ghost use Rattle.octets.specs.Every.{all_of};
 ghost use Rattle.tenants.specs.Rules.{is_last};
@@ -7,17 +9,17 @@ ghost use Rattle.judging.specs.Starts.{judged_under, judged};
 ghost use Rattle.judging.specs.Judging.{is_zero, setting_test, settings_test, principal_test, principals_test, frame_test, cell_test, spare_of, last_known, part_from, parts_from, up_to16};
 ghost use Rattle.judging.specs.declared.Part.TheVariants.{Ends, Wrong};
 
-use octets::numbers::{number16, number32, number64};
 use forms::identifiers::{is_cell_name, is_server_id};
 use layout::{
     BOOK_SIZE, MOST_RECORDS, RECORD_SIZE, RECORDS_PLACE, SETTING_SIZE, SETTINGS_PLACE, count,
     list_of,
 };
+use octets::numbers::{number16, number32, number64};
 use tenants::is_last;
 use text::reading::byte_at;
 
 // What judging a book for a tenant finds: from which record on, and up to which, those stand that it reads; or that the book is damaged.
-#[derive(Drop)]
+#[derive(Clone, Copy)]
 pub enum Judged {
     Records { first: u32, past: u32 },
     Damaged,
@@ -168,7 +170,7 @@ fn spare_of(part: &[u8]) -> u32
 }
 
 // Where tenants' parts of the records end, or that something in them is wrong.
-#[derive(Drop)]
+#[derive(Clone, Copy)]
 enum Part {
     Ends(usize),
     Wrong,

@@ -17,7 +17,7 @@ use tenants::{Asked, Held, Holding};
 
 // lambukir_edition of the header.
 #[repr(C)]
-#[derive(Drop)]
+#[derive(Clone, Copy)]
 pub struct EditionAsked {
     pub edition: u32,
     pub number: u32,
@@ -25,7 +25,7 @@ pub struct EditionAsked {
 
 // lambukir_held of the header.
 #[repr(C)]
-#[derive(Drop)]
+#[derive(Clone, Copy)]
 pub struct HeldAsked {
     pub held: u32,
     pub number: u32,
@@ -33,7 +33,7 @@ pub struct HeldAsked {
 
 // lambukir_moved of the header.
 #[repr(C)]
-#[derive(Drop)]
+#[derive(Clone, Copy)]
 pub struct RecordsMoved {
     pub moved: u32,
     pub number: u32,

@@ -14,7 +14,7 @@ use cell_opening::CellFile;
 
 // lambukir_part_written of the header.
 #[repr(C)]
-#[derive(Drop)]
+#[derive(Clone, Copy)]
 pub struct PartEnciphered {
     pub length: u64,
     pub carried: u64,
@@ -24,7 +24,7 @@ pub struct PartEnciphered {
 
 // lambukir_cell_file of the header.
 #[repr(C)]
-#[derive(Drop)]
+#[derive(Clone, Copy)]
 pub struct FileOpened {
     pub length: u64,
     pub key: u32,

@@ -11,7 +11,7 @@ use permit_file::{Cursor, Opened, Step};
 
 // lambukir_place of the header.
 #[repr(C)]
-#[derive(Drop)]
+#[derive(Clone, Copy)]
 pub struct FileOpened {
     pub place: u64,
     pub number: u32,
@@ -19,7 +19,7 @@ pub struct FileOpened {
 
 // lambukir_file_line of the header.
 #[repr(C)]
-#[derive(Drop)]
+#[derive(Clone, Copy)]
 pub struct FileLineRead {
     pub name: u64,
     pub key1: u64,
@@ -35,7 +35,7 @@ pub struct FileLineRead {
 
 // lambukir_mended of the header.
 #[repr(C)]
-#[derive(Drop)]
+#[derive(Clone, Copy)]
 pub struct FileMended {
     pub length: u64,
     pub list_length: u64,

@@ -1,4 +1,6 @@
 // The C interface: thin exported functions over the crates that do the work. include/lambukir.h tells a C caller the same.
+#![tactic(auto)]
+
 ghost use Rattle.std.specs.Prelude.{◌≡◌};
 ghost use Rattle.crc32.specs.Crc32.{crc32_of};
 ghost use Rattle.lambukir.specs.Blocks.{encipher_block, decipher_block};
@@ -12,7 +14,7 @@ pub mod texts; // texts.rt: values as text, and numbers in words
 
 // A block of eight bytes, and 0; at 103, for a key that has not 4 to 56 bytes, the block is 0.
 #[repr(C)]
-#[derive(Drop)]
+#[derive(Clone, Copy)]
 pub struct Block {
     pub block: u64,
     pub number: u32,

@@ -5,7 +5,7 @@ ghost use Rattle.lambukir.specs.Lists.{product_standing};
 
 // lambukir_standing of the header.
 #[repr(C)]
-#[derive(Drop)]
+#[derive(Clone, Copy)]
 pub struct ProductStanding {
     pub standing: u32,
     pub number: u32,

@@ -12,7 +12,7 @@ use user_permit::UserPermit;
 
 // lambukir_user_permit of the header.
 #[repr(C)]
-#[derive(Drop)]
+#[derive(Clone, Copy)]
 pub struct UserPermitRead {
     pub hw: u64,
     pub m: u32,
@@ -21,7 +21,7 @@ pub struct UserPermitRead {
 
 // lambukir_line of the header.
 #[repr(C)]
-#[derive(Drop)]
+#[derive(Clone, Copy)]
 pub struct LineRead {
     pub name: u64,
     pub key1: u64,
@@ -35,7 +35,7 @@ pub struct LineRead {
 
 // lambukir_written of the header.
 #[repr(C)]
-#[derive(Drop)]
+#[derive(Clone, Copy)]
 pub struct TextWritten {
     pub length: u64,
     pub number: u32,
@@ -43,7 +43,7 @@ pub struct TextWritten {
 
 // lambukir_part of the header.
 #[repr(C)]
-#[derive(Drop)]
+#[derive(Clone, Copy)]
 pub struct Part {
     pub start: u64,
     pub length: u64,

@@ -8,7 +8,7 @@ use spelling::{from_text, to_text};
 
 // lambukir_text of the header.
 #[repr(C)]
-#[derive(Drop)]
+#[derive(Clone, Copy)]
 pub struct Text {
     pub text: [u8; 64],
 }

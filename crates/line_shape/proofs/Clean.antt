@@ -1,7 +1,7 @@
 -- A row of characters tested one after the other, the faults of all of them taken together.
 -- Assumes nothing.
 use Rattle.std.proofs.Common.{◌≡◌, ℕ, ◌+◌, ◌-◌, ◌<◌, ◌≤◌, Bool, ◌&&◌, List, length, get_or, sym, ap, ◌∙◌, ap₂, arith}
-use mathlib.Core.Bool.{and_assoc, and_true}
+use mathlib.Core.Bool.{and_assoc, and-true}
 use lib.Bits.{bit_or}
 use Rattle.octets.specs.Every.{all_of}
 use Rattle.text.specs.Texts.{part}
@@ -30,7 +30,7 @@ module _ {test : ℕ → Bool} {n : ℕ} {s : List ℕ} {at : ℕ} where
     unfolding all_of
     clean_end done =
         let none : n - i ≡ 0 = omega (arith, clean.count) in
-        sym (clean.same ∙ ap (λ (k : ℕ). passes faults && all_of test (part k s (at + i))) none ∙ and_true (passes faults))
+        sym (clean.same ∙ ap (λ (k : ℕ). passes faults && all_of test (part k s (at + i))) none ∙ and-true (passes faults))
 
     pub clean_next : i < n → (fault : ℕ) → passes fault ≡ test (get_or s (at + i) 0) → Clean test n s at (i + 1) (bit_or faults fault)
     unfolding all_of

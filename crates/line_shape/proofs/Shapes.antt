@@ -1,7 +1,7 @@
 -- The parts of a line put together, and how long a line is at least.
 -- Assumes nothing.
 use Rattle.std.proofs.Common.{◌≡◌, ℕ, zero, suc, ◌+◌, ◌-◌, ◌*◌, ◌/◌, ◌<◌, ◌≤◌, Bool, true, false, cond, not, ◌&&◌, eqb, leb, List, ◌∷◌, length, get_or, take, sym, refl, ap, ◌∙◌, ap₂, arith, drop-cons, le-ltb, lt-ltb, eq-eqb, ne_eqb, le-leb, leb-true}
-use mathlib.Core.Bool.{and_assoc, and_true}
+use mathlib.Core.Bool.{and_assoc, and-true}
 use borrow.Author.Tests.{lt-leb}
 use lib.Bits.{bit_or}
 use Rattle.octets.specs.Numbers.{Below, bytes_of}
@@ -29,7 +29,7 @@ unfolding all_of
 all_pair test s at within =
     ap (λ (l : List ℕ). all_of test (take 2 l))
     (drop-cons s at 0 (omega arith) ∙ ap (λ (l : List ℕ). get_or s at 0 ∷ l) (drop-cons s (suc at) 0 (omega arith)))
-    ∙ ap (λ (t : Bool). test (get_or s at 0) && t) (and_true (test (get_or s (suc at) 0)))
+    ∙ ap (λ (t : Bool). test (get_or s at 0) && t) (and-true (test (get_or s (suc at) 0)))
 
 third_wrong : (a b c d : Bool) → c ≡ false → false ≡ (a && b && c && d)
 third_wrong true true c d bad = rw bad

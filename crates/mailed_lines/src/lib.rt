@@ -7,7 +7,7 @@ ghost use Rattle.mailed_lines.specs.Mailed.{line_of, unblanked, is_ecs, fate_of}
 pub mod saying; // saying.rt: the list's lines
 
 // What becomes of a line after the third: it is kept, it is :ECS, the last that is looked at, or it is left out.
-#[derive(Drop)]
+#[derive(Clone, Copy)]
 pub enum Fate {
     Kept,
     Last,

@@ -9,14 +9,14 @@ ghost use Rattle.mended_lines.specs.Giving.{given, out_after, list_after, cased,
 use mailed_lines::Fate;
 
 // Where the texts are put, in the mended file and in the list.
-#[derive(Drop)]
+#[derive(Clone, Copy)]
 pub struct Places {
     pub file: usize,
     pub list: usize,
 }
 
 // How many bytes a line gives of both, and whether lines after it are looked at.
-#[derive(Drop)]
+#[derive(Clone, Copy)]
 pub struct Given {
     pub file: usize,
     pub list: usize,

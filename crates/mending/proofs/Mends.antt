@@ -100,8 +100,8 @@ module _ (file : List ℕ) (e : Ends) (made : header_ends file ≡ Three e) (goo
           within = (ends_rise file e made).1.1;
           behind = good-place file e made good;
           short = short;
-          file_room_lem = file-room-short;
-          list_room_lem = list-room-short;
+          file_room = file-room-short;
+          list_room = list-room-short;
           outputs = inl (refl, refl);
         }
 
@@ -146,9 +146,9 @@ module _ (file : List ℕ) (e : Ends) (made : header_ends file ≡ Three e) (goo
       )
 
       -- and then the rest
-      module _ (out₁ list₁ : List ℕ) (out_is_lem : out₁ ≡ placed 0 header.file out) (list_is : list₁ ≡ placed 0 header.list list) where
+      module _ (out₁ list₁ : List ℕ) (out_is : out₁ ≡ placed 0 header.file out) (list_is : list₁ ≡ placed 0 header.list list) where
         out_length : length out₁ ≡ length out
-        out_length = ap length out_is_lem ∙ length-placed 0 header.file out
+        out_length = ap length out_is ∙ length-placed 0 header.file out
 
         list_length : length list₁ ≡ length list
         list_length = ap length list_is ∙ length-placed 0 header.list list
@@ -160,8 +160,8 @@ module _ (file : List ℕ) (e : Ends) (made : header_ends file ≡ Three e) (goo
               within = (ends_rise file e made).1.1;
               behind = good-place file e made good;
               short = short;
-              file_room_lem = out-short;
-              list_room_lem = list_short;
+              file_room = out-short;
+              list_room = list_short;
               outputs = inr (ap (λ (s : Lengths). fits s (room_of out list)) sizes_whole ∙ fit, (omega (arith, file-fits, file_size, out_length), omega (arith, list-fits, list_size, list_length)));
             }
 
@@ -172,7 +172,7 @@ module _ (file : List ℕ) (e : Ends) (made : header_ends file ≡ Three e) (goo
         pub walked-file : placed (size_of header).file later.file out₁ ≡ file_lent (mending file (length out) (length list)) out
         unfolding size_of
         walked-file =
-            ap (placed (length header.file) later.file) out_is_lem
+            ap (placed (length header.file) later.file) out_is
             ∙ placed-next 0 (length header.file) header.file later.file out (omega arith) (omega (arith, file-fits, file_size))
             ∙ ap (λ (l : List ℕ). placed 0 l out) (sym (header_and_later file e made).0)
             ∙ placed_start whole.file out file-fits

@@ -94,10 +94,10 @@ module _ (file : List ℕ) (t : Going) (out list : List ℕ) (able : Turnable fi
         rw (left-followed, same_more, over) (sym (append-nil g.file), sym (append-nil g.list)))
 
     pub any-turned : (out₁ list₁ : List ℕ) → out₁ ≡ out_after g (places_of t) out → list₁ ≡ list_after g (places_of t) list → Turned file t after out list out₁ list₁
-    any-turned out₁ list₁ out_is_lem list_is =
+    any-turned out₁ list₁ out_is list_is =
         record {
           gave = record { file = g.file; list = g.list };
-          out_is_lem = out_is_lem;
+          out_is = out_is;
           list_is = list_is;
           file_at = omega (arith, file_size);
           list_at = omega (arith, list_size);
@@ -135,7 +135,7 @@ module _ (file : List ℕ) (t : Going) (out list : List ℕ) (able : Turnable fi
     run-turned out₁ put =
         record {
           gave = record { file = bytes; list = [] };
-          out_is_lem = put;
+          out_is = put;
           list_is = sym (placed_none t.list list);
           file_at = omega (arith, length-take-le (end - t.place) (drop t.place file) (omega (arith, bounds, length-drop t.place file)));
           list_at = omega arith;

@@ -33,7 +33,7 @@ module _ (file : List ℕ) (place : ℕ) (at : Places) (room : Lengths) (out₀ 
     pub front : Mended
     pub file_at : t.file ≡ at.file + length front.file
     pub list_at : t.list ≡ at.list + length front.list
-    pub out_is_lem : out ≡ placed at.file front.file out₀
+    pub out_is : out ≡ placed at.file front.file out₀
     pub list_is : list ≡ placed at.list front.list list₀
     pub all-file : all.file ≡ front.file ++ (left_of file t).file
     pub all_list : all.list ≡ front.list ++ (left_of file t).list
@@ -49,7 +49,7 @@ module _ (file : List ℕ) (place : ℕ) (at : Places) (room : Lengths) (out₀ 
           front = nothing;
           file_at = omega arith;
           list_at = omega arith;
-          out_is_lem = sym (placed_none at.file out₀);
+          out_is = sym (placed_none at.file out₀);
           list_is = sym (placed_none at.list list₀);
           all-file = refl;
           all_list = refl;
@@ -202,7 +202,7 @@ module _ (file : List ℕ) (place : ℕ) (at : Places) (room : Lengths) (out₀ 
                 front = record { file = went.front.file ++ gave.file; list = went.front.list ++ gave.list };
                 file_at = omega (arith, went.file_at, turned.file_at, length-append went.front.file gave.file);
                 list_at = omega (arith, went.list_at, turned.list_at, length-append went.front.list gave.list);
-                out_is_lem = turned.out_is ∙ ap (placed t.file gave.file) went.out_is ∙ file-put;
+                out_is = turned.out_is ∙ ap (placed t.file gave.file) went.out_is ∙ file-put;
                 list_is = turned.list_is ∙ ap (placed t.list gave.list) went.list_is ∙ list_put;
                 all-file = went.all-file
                     ∙ ap (λ (l : List ℕ). went.front.file ++ l) turned.file_left

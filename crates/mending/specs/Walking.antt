@@ -108,7 +108,7 @@ pub record Turnable (file : List ℕ) (t : Going) (out list : List ℕ) : Type 0
 -- one or more texts were given, and the rest is left
 pub record Turned (file : List ℕ) (t r : Going) (out list out₁ list₁ : List ℕ) : Type 0 where
   pub gave : Mended
-  pub out_is_lem : out₁ ≡ placed t.file gave.file out
+  pub out_is : out₁ ≡ placed t.file gave.file out
   pub list_is : list₁ ≡ placed t.list gave.list list
   pub file_at : r.file ≡ t.file + length gave.file
   pub list_at : r.list ≡ t.list + length gave.list
@@ -147,8 +147,8 @@ pub record Walkable (file : List ℕ) (place : ℕ) (at : Places) (room : Length
   pub within : place ≤ length file
   pub behind : 37 ≤ place
   pub short : length file < 2 ^ 63
-  pub file_room_lem : room.file < 2 ^ 63
-  pub list_room_lem : room.list < 2 ^ 63
+  pub file_room : room.file < 2 ^ 63
+  pub list_room : room.list < 2 ^ 63
   pub outputs
       : ((length out ≡ 0) × (length list ≡ 0))
       ⊎ ((fits (size_after at (later_of file place)) room ≡ true)

@@ -13,7 +13,7 @@ use file_lines::texts::text_ends;
 use mended_lines::Places;
 
 // Where the first three texts end.
-#[derive(Drop)]
+#[derive(Clone, Copy)]
 pub(crate) struct Ends {
     pub first: usize,
     pub second: usize,
@@ -21,7 +21,7 @@ pub(crate) struct Ends {
 }
 
 // Three texts that LF ends, or fewer.
-#[derive(Drop)]
+#[derive(Clone, Copy)]
 pub(crate) enum Header {
     Three(Ends),
     Fewer,

@@ -12,14 +12,14 @@ mod header; // header.rt: the first three lines
 mod walking; // walking.rt: the lines after them
 
 // How long the mended file and the list are.
-#[derive(Drop)]
+#[derive(Clone, Copy)]
 pub struct Lengths {
     pub file: usize,
     pub list: usize,
 }
 
 // What mending answers: the mended file and the list stand at their outputs' starts, or the refusal, with nothing written.
-#[derive(Drop)]
+#[derive(Clone, Copy)]
 pub enum Answer {
     Done(Lengths),
     Refused(u32),

@@ -10,7 +10,7 @@ use mended_lines::{Given, Places};
 
 // How far the mending has come: the place in the file, the count of the line that begins there, the bytes of both outputs,
 // and whether lines are still looked at.
-#[derive(Drop)]
+#[derive(Clone, Copy)]
 pub(crate) struct Going {
     pub place: usize,
     pub count: u64,
@@ -91,7 +91,7 @@ fn clean_length(file: &[u8], place: usize) -> usize
 }
 
 // Records that need no mending, one after the other: how many there are, and where they end.
-#[derive(Drop)]
+#[derive(Clone, Copy)]
 struct Run {
     lines: u64,
     end: usize,

@@ -4,7 +4,7 @@ ghost use Rattle.octets.specs.Numbers.{bytes_of};
 ghost use Rattle.octets.specs.Places.{number_at};
 
 // A number that was read, or Wrong where the bytes are none.
-#[derive(Drop)]
+#[derive(Clone, Copy)]
 pub enum Reading {
     Number(u64),
     Wrong,

@@ -1,4 +1,6 @@
 // Opening: an empty book from sixteen quotas, Data Server IDs and principals.
+#![tactic(auto)]
+
 ghost use Rattle.std.specs.Prelude.{◌≡◌, [], ◌<◌, length};
 ghost use Rattle.text.specs.Texts.{placed};
 ghost use Rattle.forms.specs.Output.{written_number, written_of, lent_after};

@@ -7,20 +7,20 @@ use cell_permit::Line;
 use file_lines::LineFound;
 
 // The reader's place in a file.
-#[derive(Drop)]
+#[derive(Clone, Copy)]
 pub struct Cursor {
     pub place: usize,
 }
 
 // What opening a file answers: the place of the first line after :ENC, or the refusal.
-#[derive(Drop)]
+#[derive(Clone, Copy)]
 pub enum Opened {
     At(Cursor),
     Refused(u32),
 }
 
 // What reading one line answers, with the next place inside.
-#[derive(Drop)]
+#[derive(Clone, Copy)]
 pub enum Step {
     Record(cell_permit::Record, Cursor),
     Refused(u32, Cursor),
@@ -28,7 +28,7 @@ pub enum Step {
 }
 
 // Where the next line ends, or the answer of a step that reads none.
-#[derive(Drop)]
+#[derive(Clone, Copy)]
 enum Next {
     Line(usize),
     Answer(Step),

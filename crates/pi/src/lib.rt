@@ -1,4 +1,6 @@
 // Pi's fraction as the words that Blowfish starts from: P, then S1 to S4. No reader has to trust the numbers: they are proved to equal what specs/Pi.antt works out.
+#![tactic(auto)]
+
 ghost use Rattle.std.specs.Prelude.{◌≡◌, ◌+◌, ◌≤◌, length};
 ghost use Rattle.pi.specs.Overlaid.{Overlaid};
 ghost use Rattle.pi.specs.Pi.{start_words};

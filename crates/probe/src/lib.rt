@@ -1,4 +1,6 @@
 // What tests/ and bench/ reach of the leaf crates beside the C interface. Nothing that is shipped uses it.
+#![tactic(auto)]
+
 ghost use Rattle.std.specs.Prelude.{◌≡◌, ◌%◌};
 ghost use Rattle.octets.specs.Numbers.{bytes_of};
 ghost use Rattle.octets.specs.Places.{number_at};
@@ -11,14 +13,14 @@ ghost use Rattle.blowfish.specs.Schedule.{key_number, scheduled};
 ghost use Rattle.probe.specs.Forms.{days_form, unpadded_form};
 
 #[repr(C)]
-#[derive(Drop)]
+#[derive(Clone, Copy)]
 pub struct ProbeDaysLeft {
     pub passed: u32,
     pub days: u32,
 }
 
 #[repr(C)]
-#[derive(Drop)]
+#[derive(Clone, Copy)]
 pub struct ProbeUnpadded {
     pub value: u64,
     pub right: u32,

@@ -1,7 +1,7 @@
 -- The last six fields of a row, taken one after another up to the line's end.
 -- Assumes nothing.
 use mathlib.Core.Path.{◌≡◌, sym, ap, ◌∙◌}
-use mathlib.Core.Bool.{false, and_true}
+use mathlib.Core.Bool.{false, and-true}
 use mathlib.Core.List.{List, [], ◌∷◌}
 use Prim.Native.Nat.{ℕ, ◌-◌, ◌≤◌, ◌<◌}
 use native.Mathlib.Omega.{arith}
@@ -58,7 +58,7 @@ module _ (line : List ℕ) (at : ℕ) (six : fields_left line at ≡ 6) (l : ℕ
 
         alone : fits (all_of is_printable ∷ []) (fields_of (drop r line)) ≡ all_of is_printable (drop r line)
         unfolding fits
-        alone = rw (last_field_lem line r one-r) (and_true (all_of is_printable (drop r line)))
+        alone = rw (last_field_lem line r one-r) (and-true (all_of is_printable (drop r line)))
 
         pub then-printable : all_at is_printable (length line - r) line r ≡ fits last_forms (fields_of (drop at line))
         then-printable =

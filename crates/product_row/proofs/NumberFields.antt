@@ -1,7 +1,7 @@
 -- Fields that are numbers, or digits alone, by where their digits end.
 -- Assumes nothing.
 use mathlib.Core.Path.{◌≡◌, refl, sym, ap, ◌∙◌}
-use mathlib.Core.Bool.{Bool, true, false, and_true, and-false}
+use mathlib.Core.Bool.{Bool, true, false, and-true, and-false}
 use mathlib.Core.List.{List, [], ◌∷◌}
 use Prim.Native.Nat.{ℕ, zero, suc, ◌+◌, ◌-◌, ◌≤◌, ◌<◌}
 use native.Mathlib.Omega.{arith}
@@ -27,7 +27,7 @@ first_alike most low (suc n) a b same = let e : a ≡ b = same (omega arith) in 
 digits_few : (n : ℕ) (f : List ℕ) → all_of is_digit f ≡ true → or_blank (is_digits n) f ≡ leb (length f) n
 unfolding is_blank is_digits
 digits_few n [] all = sym (le-leb 0 n (omega arith))
-digits_few n (c ∷ f) all = rw (all, le-leb 1 (suc (length f)) (omega arith)) (and_true (leb (suc (length f)) n))
+digits_few n (c ∷ f) all = rw (all, le-leb 1 (suc (length f)) (omega arith)) (and-true (leb (suc (length f)) n))
 
 -- a text that is not all digits is not blank
 other_digits : (n : ℕ) (f : List ℕ) → all_of is_digit f ≡ false → or_blank (is_digits n) f ≡ false

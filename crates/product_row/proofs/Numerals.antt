@@ -1,7 +1,7 @@
 -- A number's form by how many digits it has and by its first.
 -- Assumes nothing.
 use mathlib.Core.Path.{◌≡◌, refl, sym, ◌∙◌}
-use mathlib.Core.Bool.{true, false, and_true, and-false, or-true}
+use mathlib.Core.Bool.{true, false, and-true, and-false, or-true}
 use mathlib.Core.List.{List, [], ◌∷◌, map}
 use Prim.Native.Nat.{ℕ, zero, suc, ◌-◌, ◌^◌, ◌≤◌}
 use native.Mathlib.Nat.{one-le-pow, one-le-mul}
@@ -34,17 +34,17 @@ unfolding is_number is_digits is_numeral digit_value value is_digit
 number_numeral most low [] small all = refl
 number_numeral most low (c ∷ []) small all =
     either (eqb c 48)
-    (λ zero. let e : c ≡ 48 = eqb-true c 48 zero in rw (all, e) (simp (and_true, at-most_none)))
+    (λ zero. let e : c ≡ 48 = eqb-true c 48 zero in rw (all, e) (simp (and-true, at-most_none)))
     (λ other.
     let large : low ≤ decimal_number (c ∷ []) = omega (arith, positive c [] (all_first is_digit c [] all) (eqb-false c 48 other)) in
-    rw (all, other, le-leb low (decimal_number (c ∷ [])) large) (simp and_true))
+    rw (all, other, le-leb low (decimal_number (c ∷ [])) large) (simp and-true))
 number_numeral most low (c ∷ d ∷ s) small all =
     let two : eqb (suc (suc (length s))) 1 ≡ false = ne_eqb (suc (suc (length s))) 1 (λ e. omega arith) in
     either (eqb c 48)
     (λ zero. rw (all, zero, two) (simp and-false))
     (λ other.
     let large : low ≤ decimal_number (c ∷ d ∷ s) = omega (arith, positive c (d ∷ s) (all_first is_digit c (d ∷ s) all) (eqb-false c 48 other)) in
-    rw (all, other, le-leb low (decimal_number (c ∷ d ∷ s)) large) (simp (and_true, or-true)))
+    rw (all, other, le-leb low (decimal_number (c ∷ d ∷ s)) large) (simp (and-true, or-true)))
 
 pub no_digits_no_number : (most low : ℕ) (f : List ℕ) → all_of is_digit f ≡ false → is_number most low f ≡ false
 unfolding is_number is_digits

@@ -1,7 +1,7 @@
 -- Reading the rows one after the other: what is known of all of them at each place.
 -- Assumes nothing.
 use mathlib.Core.Path.{◌≡◌, refl, sym, ap, ◌∙◌}
-use mathlib.Core.Bool.{Bool, true, false, ◌&&◌, and_true, and-false, and_assoc}
+use mathlib.Core.Bool.{Bool, true, false, ◌&&◌, and-true, and-false, and_assoc}
 use mathlib.Core.List.{List, [], ◌∷◌}
 use Prim.Native.Nat.{ℕ, ◌+◌, ◌-◌, ◌≤◌}
 use native.Mathlib.Omega.{arith}
@@ -68,7 +68,7 @@ module _ {list : List ℕ} {first name at last : ℕ} {rising : Bool} {own : Own
     at-close : rows_read list first name ≡ Good own rising
     unfolding rows_read is_good_from all_rows own_row rises_from
     at-close =
-        rw (known.good, known.found, known.rises, closed, none, first_none, and_true)
+        rw (known.good, known.found, known.rises, closed, none, first_none, and-true)
 
   pub ended : line_found list at ≡ End → rows_read list first name ≡ Good own rising
   ended made = let e = at_end list at made in at-close e.1 e.0

@@ -9,7 +9,7 @@ use text::characters::Alphabet;
 use text::reading::{byte_at, stands_at};
 
 // The lines of the header.
-#[derive(Drop)]
+#[derive(Clone, Copy)]
 enum Kind {
     Date,
     Version,

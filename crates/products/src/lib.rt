@@ -11,7 +11,7 @@ mod header; // header.rt: the header's four lines
 mod rows; // rows.rt: the rows, one after the other
 
 // How a cell stands, or the refusal.
-#[derive(Drop)]
+#[derive(Clone, Copy)]
 pub enum Answer {
     UpToDate,
     Behind,
@@ -21,7 +21,7 @@ pub enum Answer {
 }
 
 // A cell's own row, where the list has one.
-#[derive(Drop)]
+#[derive(Clone, Copy)]
 pub enum Own {
     Listed(Row),
     Nothing,

@@ -7,7 +7,7 @@ use file_lines::LineFound;
 use product_row::{Read, Row};
 
 // What reading all rows gives: the cell's own row, and whether the rows are in name order.
-#[derive(Drop)]
+#[derive(Clone, Copy)]
 pub(crate) enum RowsRead {
     Good(Own, bool),
     Wrong,

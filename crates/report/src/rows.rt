@@ -11,7 +11,7 @@ use cell_permit::Line;
 use permit_file::{Cursor, Step};
 
 // How far the look-through has come: the place in the file, the bytes written, and the lines counted by kind.
-#[derive(Drop)]
+#[derive(Clone, Copy)]
 pub struct Tally {
     pub place: usize,
     pub written: usize,

@@ -1,7 +1,7 @@
 -- Whom a tenant may name as its principal, test by test in the order in which they are made.
 -- Assumes nothing.
 use mathlib.Core.Path.{◌≡◌, sym, ap, ◌∙◌}
-use mathlib.Core.Bool.{true, false, not, ◌&&◌, and_true, and-false}
+use mathlib.Core.Bool.{true, false, not, ◌&&◌, and-true, and-false}
 use mathlib.Core.List.{List}
 use Prim.Native.Nat.{ℕ, ◌-◌, ◌≤◌, ◌<◌}
 use native.Mathlib.Omega.{arith}
@@ -39,7 +39,7 @@ module _ (settings : List Setting) (t : ℕ) (s : Setting) where
     unfolding is_tenant names_none
     names-tenant low none own =
         left
-        ∙ rw (le-leb p 15 (omega arith), eq-eqb s.quota 0 none, and_true)
+        ∙ rw (le-leb p 15 (omega arith), eq-eqb s.quota 0 none, and-true)
         (either (eqb p t)
         (λ self.
         let its : (get_or settings p no_setting).principal ≡ s.principal

@@ -75,7 +75,7 @@ not_fit cell wrong = either (is_held cell) (λ held. absurd (wrong (held_fits ce
 
 -- the last expiry decides where all else fits
 pub by_last : (cell : Held) → is_cell_name cell.name ≡ true → 1 ≤ cell.edition → cell.edition ≤ 999
-    → cell.key1 ≤ 0x_fF_FFFF_FFFF → cell.key2 ≤ 0x_fF_FFFF_FFFF → is_last cell.last ≡ is_held cell
+    → cell.key1 ≤ 0xFF_FFFF_FFFF → cell.key2 ≤ 0xFF_FFFF_FFFF → is_last cell.last ≡ is_held cell
 unfolding is_held
 by_last cell name low high one two =
     rw (

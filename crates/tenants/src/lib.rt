@@ -1,9 +1,11 @@
 // What the rules for a tenant's own list of cells are about.
+#![tactic(auto)]
+
 ghost use Rattle.std.specs.Prelude.{◌≡◌};
 ghost use Rattle.tenants.specs.Rules.{is_last};
 
 // A cell as a tenant holds it; the last is its last expiry, which is the latest that a line of it may have: 0 for none.
-#[derive(Drop)]
+#[derive(Clone, Copy)]
 pub struct Held {
     pub name: u64,
     pub edition: u32,
@@ -14,7 +16,7 @@ pub struct Held {
 
 // What is set for a tenant: how many cells it may hold, its warning days, its Data Server ID, and its principal, whose cells it reads: 0 for none, otherwise the
 // principal's number plus one.
-#[derive(Drop)]
+#[derive(Clone, Copy)]
 pub struct Setting {
     pub quota: u32,
     pub days: u32,
@@ -23,14 +25,14 @@ pub struct Setting {
 }
 
 // What asking for an edition answers.
-#[derive(Drop)]
+#[derive(Clone, Copy)]
 pub enum Asked {
     Edition(u32),
     Refused(u32),
 }
 
 // What asking for a producer answers: whether any of its cells is held.
-#[derive(Drop)]
+#[derive(Clone, Copy)]
 pub enum Holding {
     Any(bool),
     Refused(u32),

@@ -1,7 +1,7 @@
 -- The bytes of one word tested at once: their top bits, and what four sums make of them.
 -- Assumes nothing.
 use Rattle.std.proofs.Common.{◌≡◌, ℕ, zero, suc, ◌+◌, ◌-◌, ◌*◌, ◌/◌, ◌%◌, ◌^◌, ◌<◌, ◌≤◌, Bool, true, false, cond, not, ◌&&◌, ◌||◌, T, eqb, ltb, ◌⊎◌, [], ◌∷◌, sym, refl, ap, ◌∙◌, ap₂, inl, inr, mod-lt, div-lt_iff_lt-mul, pow-suc, div-add-mod', arith, ltb-true, eq-eqb, ne_eqb, eqb-true}
-use mathlib.Core.Bool.{and_true}
+use mathlib.Core.Bool.{and-true}
 use lib.Bits.{bit_and, bit_xor, and_zero_r, and_block, xor_block, and_le_r, xor_lt}
 use Rattle.octets.specs.Numbers.{digits, bytes_of}
 use Rattle.octets.specs.Every.{all_of}
@@ -179,7 +179,7 @@ module _ (last : ℕ) (letter : Last last) where
   at_once zero x = rw (and_zero_r x, and_zero_r (odd last 0 x))
   at_once (suc n) x =
       up-to-parts last n x
-      ∙ ap₂ (λ (a b : Bool). a && b) (at_once n (x / 256)) (up_to_byte last (x % 256) letter (low_lt x) ∙ sym (and_true (up_to last (x % 256))))
+      ∙ ap₂ (λ (a b : Bool). a && b) (at_once n (x / 256)) (up_to_byte last (x % 256) letter (low_lt x) ∙ sym (and-true (up_to last (x % 256))))
       ∙ sym (ap (all_of (up_to last)) (digits_low 256 n x) ∙ all_append (up_to last) (bytes_of n (x / 256)) (x % 256 ∷ []))
 
   -- a number whose top bits are looked at as well as those of x: where x has none set, it is `odd`

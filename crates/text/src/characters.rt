@@ -3,7 +3,7 @@ ghost use Rattle.std.specs.Prelude.{◌≡◌, ◌+◌, ◌-◌, ◌%◌, ◌||�
 ghost use Rattle.text.specs.Characters.{between, raised, is_digit, is_upper_hex, is_name_character, is_printable, test_of, hex_value, hex_character, digit_value, digit_character};
 
 // The alphabets that a text may be written in.
-#[derive(Drop)]
+#[derive(Clone, Copy)]
 pub enum Alphabet {
     Digit,
     UpperHex,

@@ -1,4 +1,6 @@
 // A line written: a cell permit with its service level, edition, Data Server ID and an empty comment, and CR LF.
+#![tactic(auto)]
+
 ghost use Rattle.std.specs.Prelude.{◌≡◌, true, [], ◌∷◌, ◌++◌, ◌+◌, ◌≤◌, length};
 ghost use Rattle.octets.specs.Numbers.{bytes_of};
 ghost use Rattle.text.specs.Characters.{decimal_text};
@@ -19,10 +21,10 @@ pub fn is_cell(cell: Cell) -> bool
     if !dates::is_date(cell.expiry) {
         return false;
     }
-    if 0x_fF_FFFF_FFFF < cell.key1 {
+    if 0xFF_FFFF_FFFF < cell.key1 {
         return false;
     }
-    if 0x_fF_FFFF_FFFF < cell.key2 {
+    if 0xFF_FFFF_FFFF < cell.key2 {
         return false;
     }
     if 1 < cell.level {

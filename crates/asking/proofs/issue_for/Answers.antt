@@ -1,0 +1,80 @@
+-- `asking::issue_for` meets its contract: the cell is the tenant's own, and so are its last expiry and the Data Server ID.
+-- Assumes nothing.
+use mathlib.Core.Path.{◌≡◌, sym, ap, ◌∙◌}
+use mathlib.Core.List.{List}
+use mathlib.Core.Option.{some}
+use Prim.Native.Nat.{ℕ, ◌<◌}
+use borrow.Author.Rules.{rules}
+use lib.ListN.{length}
+use Rattle.forms.proofs.Outputs.{refused}
+use Rattle.cell_permit.specs.CellPermit.{written_line}
+use Rattle.tenants.specs.declared.Setting.{Setting}
+use Rattle.tenants.specs.Cells.{cell_of}
+use Rattle.tenants.specs.Rules.{line_cell}
+use Rattle.tenants.specs.Together.{names}
+use Rattle.layout.specs.Layout.{own_in}
+use Rattle.layout.proofs.Indexed.{own_setting}
+use Rattle.records.proofs.OwnFound.{finds_held, finds_none}
+use Rattle.asking.proofs.AnswerRules.{answered_same, line_refused, line-absent, line-late, line-held}
+use Rattle.asking.proofs.issue_for.Goals as goal
+use Rattle.asking.proofs.issue_for.Goals.{After-cell_at-held, After-in_time, In-Ship, Start}
+
+pub returns-in-Refused : goal.returns-in-Refused
+returns-in-Refused c = refused _ _ _ (line_refused _ _ _ _ _ _ _ c.in-Refused.is)
+
+-- where the ship is known
+module _ (f : In-Ship) where
+  abbrev start : Start
+  start = (goal.at.In-Ship f).Start
+
+  abbrev s : List ℕ
+  s = start.args.book.now
+
+  abbrev t : ℕ
+  t = start.args.tenant
+
+  abbrev name : ℕ
+  name = start.args.name
+
+  small : name < names
+  small = search rules
+
+pub returns-in_default : goal.returns-in_default
+returns-in_default c =
+    let f = (goal.at.returns-in_default c).In-Ship in
+    refused _ 104 _
+    (line-absent _ _ _ _ _ _ _ _ c.in-Ship.is
+    (finds_none (s f) (t f) (name f) _ (start f).requires.0.0 (small f) (sym (start f).requires.1 ∙ c.in_default.is)))
+
+-- the cell that the search found is the tenant's own of that name, and whether it may be sold was asked of it
+module _ (c : After-in_time) where
+  abbrev held : After-cell_at-held
+  held = (goal.at.After-in_time c).After-cell_at-held
+
+  abbrev first : In-Ship
+  first = held.before.before.before.before
+
+  found : cell_of (name first) (own_in (s first) (t first)).cells ≡ some held.Cell-at.result
+  found =
+      finds_held (s first) (t first) (name first) _ (start first).pre.0.0 (small first)
+      (sym (start first).pre.1 ∙ held.before.before.found.given.1)
+      ∙ ap some (sym held.Cell-at.ensures)
+
+pub returns-then-not-in_time : goal.returns-then-not-in_time
+returns-then-not-in_time c =
+    let f = first (goal.at.returns-then-not-in_time c).After-in_time in
+    refused _ 112 _
+    (line-late _ _ _ _ _ _ _ _ f.before.ship.given.1 _ (found (goal.at.returns-then-not-in_time c).After-in_time) (sym c.in_time.ensures ∙ c.if-not-in_time.true))
+
+pub returns : goal.returns
+returns c =
+    let it = (goal.at.returns c).After-in_time in
+    let f = first it in
+    let args = (start f).args in
+    let hw = f.before.ship.given.0.0 in
+    answered_same _ _ _ _ _
+    (line-held args.expiry args.level (length args.out.now) _ _ _ _ _ f.before.ship.given.1 _ _
+    (found it) (own_setting (s f) (t f) (start f).pre.0.1) (sym c.in_time.ensures ∙ c.if-not-in_time.false)
+    ∙ sym (ap (λ (own : Setting). written_line hw (line_cell own (held it).Cell-at.result args.expiry args.level) (length args.out.now))
+    c.setting_of.ensures))
+    c.write_line.ensures

@@ -1,0 +1,12 @@
+-- `crc32::bytes_in` meets its contract. The invariant: feeding what remains gives what the whole gives.
+use mathlib.Core.Path.{◌≡◌}
+use Prim.Native.Nat.{◌-◌, ◌≤◌}
+use lib.ListN.{length, drop}
+use Rattle.crc32.specs.Crc32.{feed_all}
+use Rattle.crc32.proofs.bytes_in.Given as goal
+
+abbrev pub invariant-loop-i : goal.invariant-loop-i
+invariant-loop-i l = (l.i ≤ length l.s) × (feed_all l.c (drop l.i l.s) ≡ feed_all l.state l.s)
+
+abbrev pub decreases-loop-i : goal.decreases-loop-i
+decreases-loop-i l = length l.s - l.i

@@ -1,0 +1,11 @@
+-- `file_lines::line_ends` meets its contract. The invariant: the line that begins at i ends where the one at the place ends.
+-- Assumes nothing.
+use Rattle.std.proofs.Common.{◌≡◌, ◌-◌, ◌≤◌, length}
+use Rattle.file_lines.specs.Lines.{line_ends}
+use Rattle.file_lines.proofs.line_ends.Given as goal
+
+abbrev pub invariant-loop-i : goal.invariant-loop-i
+invariant-loop-i l = (l.i ≤ length l.file) × (line_ends l.file l.i ≡ line_ends l.file l.place)
+
+abbrev pub decreases-loop-i : goal.decreases-loop-i
+decreases-loop-i l = length l.file - l.i

@@ -1,0 +1,12 @@
+-- `judging::are_principals` meets its contract. The invariant: the tenants before t may name as they do.
+-- Assumes nothing.
+use Prim.Native.Nat.{◌-◌}
+use Rattle.judging.specs.Judging.{principal_test}
+use Rattle.layout.proofs.AllFrom.{Passed}
+use Rattle.judging.proofs.are_principals.Given as goal
+
+abbrev pub invariant-loop-t : goal.invariant-loop-t
+invariant-loop-t l = Passed (principal_test l.book) l.t
+
+abbrev pub decreases-loop-t : goal.decreases-loop-t
+decreases-loop-t l = 16 - l.t

@@ -1,0 +1,25 @@
+-- `opening::put_settings` meets its contract: the settings before that of tenant t are put.
+-- Assumes nothing.
+use Prim.Native.Nat.{◌-◌}
+use native.Mathlib.Omega.{arith}
+use Rattle.opening.proofs.FirstBook.{settings_none, settings-next, settings-all}
+use Rattle.opening.proofs.put_settings.Goals as goal
+
+pub loop-t-init : goal.loop-t-init
+loop-t-init c = settings_none _ _ _ (omega (arith, c.requires.0))
+
+pub first_setting-requires : goal.first_setting-requires
+first_setting-requires c =
+    let sizes = c.requires.1 in
+    (sizes.0, (sizes.1, omega arith))
+
+pub loop-t-preserved : goal.loop-t-preserved
+loop-t-preserved c =
+    let now = c.loop-t in
+    settings-next _ _ _ now.invariant (omega arith) _ _ c.first_setting.ensures c.put_setting.ensures
+
+pub shape_of-book : goal.shape_of-book
+shape_of-book c = c.loop-t.invariant.put.same
+
+pub returns : goal.returns
+returns c = settings-all _ _ _ c.loop-t.invariant (omega arith)

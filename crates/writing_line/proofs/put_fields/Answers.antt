@@ -1,0 +1,11 @@
+-- `writing_line::put_fields` meets its contract. Three texts, each after the one before it.
+-- Assumes nothing.
+use Rattle.writing_line.proofs.LinePlaced.{fields-placed}
+use Rattle.writing_line.proofs.put_fields.Goals as goal
+
+pub returns : goal.returns
+returns c =
+    fields-placed _ _ _ _ _ _ c.requires.0 c.requires.1.0 c.requires.1.1
+    c.put_number.ensures
+    c.put_number-2.ensures
+    c.put_server.ensures

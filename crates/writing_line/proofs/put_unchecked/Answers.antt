@@ -1,0 +1,13 @@
+-- `writing_line::put_unchecked` meets its contract. Four texts, each after the one before it.
+-- Assumes nothing.
+use Rattle.writing_line.proofs.LinePlaced.{unchecked-placed}
+use Rattle.writing_line.proofs.put_unchecked.Goals as goal
+
+pub returns : goal.returns
+returns c =
+    unchecked-placed _ _ _ c.requires _ _ _ _ _
+    c.bytes64-name.ensures
+    c.put_text.ensures
+    c.put_decimal.ensures
+    c.put_key.ensures
+    c.put_key-2.ensures
