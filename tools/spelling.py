@@ -98,9 +98,11 @@ class Names:
         return {new: olds for new, olds in by_new.items() if len(olds) > 1}
 
 
-def turned(text, names, dashes=True):
+def turned(text, names, dashes=True, foreign=frozenset()):
     def one(m):
         t = m.group(0)
+        if t in foreign:
+            return t
         known = names.fields if m.start() and text[m.start() - 1] == "." else names.words
         if t in known and ("-" not in t or dashes):
             return known[t]
@@ -111,18 +113,34 @@ def turned(text, names, dashes=True):
     return TOKEN.sub(one, text)
 
 
+def foreign_in(text):
+    """What a file takes from the kit's modules keeps its name."""
+    found = set()
+    for m in re.finditer(r"(?m)^use ([\w.]+)\.\{([^}]*)\}", text):
+        if not m.group(1).startswith("Rattle.") or m.group(1).startswith("Rattle.std."):
+            found |= {n.strip() for n in m.group(2).split(",")}
+    return found
+
+
 def turned_antt(text, names):
     out = []
+    foreign = foreign_in(text)
+    inside = False
     for line in text.split("\n"):
+        if line and not line.startswith(" "):
+            inside = bool(re.match(r"(pub )?(record|data) ", line))
         at = line.find("--")
+        field = re.match(r"(  (?:pub )?)([A-Za-z][^\s:(){}]*)(?= :)", line) if inside else None
         if at >= 0 and (at == 0 or line[at - 1] == " "):
-            out.append(turned(line[:at], names) + turned(line[at:], names, dashes=False))
+            out.append(turned(line[:at], names, foreign=foreign) + turned(line[at:], names, dashes=False))
         elif line.startswith("use "):
+            # a module's path keeps its spelling
             path, brace, rest = line.partition("{")
-            # a module's path keeps its spelling, but for the library's new name
-            out.append(path + brace + turned(rest, names) if brace else line)
+            out.append(path + brace + turned(rest, names, foreign=foreign) if brace else line)
+        elif field:
+            out.append(field.group(1) + names.fields.get(field.group(2), field.group(2)) + turned(line[field.end() :], names, foreign=foreign))
         else:
-            out.append(turned(line, names))
+            out.append(turned(line, names, foreign=foreign))
     return "\n".join(out)
 
 

@@ -1,4 +1,6 @@
 // A line of PERMIT.TXT: a cell permit with its service level, edition, Data Server ID and comment.
+#![tactic(auto)]
+
 ghost use Rattle.std.specs.Prelude.{◌≡◌, ◌≤◌, length, get_or};
 ghost use Rattle.octets.specs.Places.{point_at};
 ghost use Rattle.text.specs.Characters.{raised_text, is_digit};

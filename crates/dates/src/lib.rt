@@ -1,4 +1,6 @@
 // Dates, each a number YYYYMMDD: which numbers are dates, day numbers, the days left, and the notice that they give.
+#![tactic(auto)]
+
 ghost use Rattle.std.specs.Prelude.{◌≡◌, ◌≤◌};
 ghost use Rattle.dates.specs.Calendar.{is_leap, days_in, within, is_date, days_before_month, day_number};
 ghost use Rattle.dates.specs.Notice.{days_left, left_of, is_days, notice_of, notice_number};

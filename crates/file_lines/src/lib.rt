@@ -1,4 +1,6 @@
 // What PERMIT.TXT and PRODUCTS.TXT have in common: lines that CR LF ends, :ECS, and the date and time at the start.
+#![tactic(auto)]
+
 ghost use Rattle.std.specs.Prelude.{◌≡◌, ◌≤◌, true, length, nat_lt};
 ghost use Rattle.octets.specs.Numbers.{bytes_of};
 ghost use Rattle.octets.specs.Every.{all_of};

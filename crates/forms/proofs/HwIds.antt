@@ -1,7 +1,7 @@
 -- HW_IDs with their letters raised: their bytes, and their form before and after.
 -- Assumes nothing.
 use mathlib.Core.Path.{◌≡◌, sym, ap, ◌∙◌}
-use mathlib.Core.Bool.{Bool, true}
+use mathlib.Core.Bool.{true}
 use mathlib.Core.List.{List}
 use Prim.Native.Nat.{ℕ, ◌^◌, ◌≤◌, ◌<◌}
 use native.Mathlib.Omega.{arith}
@@ -11,11 +11,10 @@ use lib.ListN.{length, replicate, length-map}
 use lib.Seq.{take_all}
 use Rattle.octets.specs.Numbers.{Below, bytes_of, bytes_number}
 use Rattle.octets.specs.Places.{number_at}
-use Rattle.octets.specs.Every.{all_of}
 use Rattle.octets.proofs.Digits.{digits-length, digits_below, digits_value, value_below, value-digits_fit}
 use Rattle.octets.proofs.Every.{either}
 use Rattle.octets.proofs.Places.{number_within}
-use Rattle.text.specs.Characters.{raised, raised_text, is_upper_hex, is_hex}
+use Rattle.text.specs.Characters.{raised, raised_text, is_upper_hex}
 use Rattle.text.specs.Texts.{placed}
 use Rattle.text.proofs.PutTexts.{raised_whole}
 use Rattle.text.proofs.Raising.{raised_below, hex_raised, written_stays}

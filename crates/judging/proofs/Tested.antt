@@ -86,11 +86,11 @@ module _ (s : List ℕ) where
   test_fails = part_fails (frame_test s) frame_facts framed_test
 
   pub fact_fails : (Framed s → ⊥) → frame_test s ≡ false
-  fact_fails = decides.fact-fails (frame_test s) frame_facts framed_test
+  fact_fails = decides.fact_fails (frame_test s) frame_facts framed_test
 
   -- the last test decides
   pub last_decides : (last : Bool) → (Framed s → last ≡ true) → (last ≡ true → Framed s) → last ≡ frame_test s
-  last_decides = decides.last-decides (frame_test s) frame_facts framed_test
+  last_decides = decides.last_decides (frame_test s) frame_facts framed_test
 
 module _ (s : List ℕ) (below : Below 256 s) where
   abbrev n : ℕ

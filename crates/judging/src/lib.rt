@@ -1,4 +1,6 @@
 // Judging a book: whether its bytes are undamaged, and where the records stand that a tenant reads.
+#![tactic(auto)]
+
 ghost use Rattle.std.specs.Prelude.{◌≡◌, true, cond, ◌-◌, ◌/◌, ◌%◌, ◌≤◌, ◌<◌, leb, length};
 ghost use Rattle.octets.specs.Every.{all_of};
 ghost use Rattle.tenants.specs.Rules.{is_last};
@@ -7,12 +9,12 @@ ghost use Rattle.judging.specs.Starts.{judged_under, judged};
 ghost use Rattle.judging.specs.Judging.{is_zero, setting_test, settings_test, principal_test, principals_test, frame_test, cell_test, spare_of, last_known, part_from, parts_from, up_to16};
 ghost use Rattle.judging.specs.declared.Part.TheVariants.{Ends, Wrong};
 
-use octets::numbers::{number16, number32, number64};
 use forms::identifiers::{is_cell_name, is_server_id};
 use layout::{
     BOOK_SIZE, MOST_RECORDS, RECORD_SIZE, RECORDS_PLACE, SETTING_SIZE, SETTINGS_PLACE, count,
     list_of,
 };
+use octets::numbers::{number16, number32, number64};
 use tenants::is_last;
 use text::reading::byte_at;
 

@@ -1,4 +1,6 @@
 // The C interface: thin exported functions over the crates that do the work. include/lambukir.h tells a C caller the same.
+#![tactic(auto)]
+
 ghost use Rattle.std.specs.Prelude.{◌≡◌};
 ghost use Rattle.crc32.specs.Crc32.{crc32_of};
 ghost use Rattle.lambukir.specs.Blocks.{encipher_block, decipher_block};

@@ -1,4 +1,6 @@
 // The book's bytes: what they say.
+#![tactic(auto)]
+
 ghost use Rattle.std.specs.Prelude.{◌≡◌, ◌-◌, ◌/◌, ◌<◌};
 ghost use Rattle.octets.specs.Places.{number_at};
 ghost use Rattle.layout.specs.Layout.{one, records_place, record_count_by, record_count, setting_at, list_in};

@@ -1,4 +1,6 @@
 // Whether a text has the shape of a permit line. A test of a character leaves its answer in a top bit, so that those of many are taken together, and no branch is made for each of them.
+#![tactic(auto)]
+
 ghost use Rattle.std.specs.Prelude.{◌≡◌, ◌-◌, ◌≤◌, true, length, if◌then◌else◌, nat_lt};
 ghost use Rattle.octets.specs.Numbers.{bytes_of};
 ghost use Rattle.octets.specs.Every.{all_of};

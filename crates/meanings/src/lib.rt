@@ -1,4 +1,6 @@
 // What a number that comes back means, in a few words, and whether it is success.
+#![tactic(auto)]
+
 ghost use Rattle.std.specs.Prelude.{◌≡◌};
 ghost use Rattle.spelling.specs.Spelling.{spelled};
 ghost use Rattle.meanings.specs.Meanings.{is_success, meaning_of};

@@ -1,4 +1,6 @@
 // What tests/ and bench/ reach of the leaf crates beside the C interface. Nothing that is shipped uses it.
+#![tactic(auto)]
+
 ghost use Rattle.std.specs.Prelude.{◌≡◌, ◌%◌};
 ghost use Rattle.octets.specs.Numbers.{bytes_of};
 ghost use Rattle.octets.specs.Places.{number_at};

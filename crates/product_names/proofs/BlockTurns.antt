@@ -1,8 +1,6 @@
 -- A block of names, as the rows are gone through: what holds at each row, and what that says at the end.
 -- Assumes nothing.
-use Rattle.std.proofs.Common.{◌≡◌, ℕ, ◌+◌, ◌-◌, ◌<◌, ◌≤◌, Bool, true, false, ◌||◌, ltb, List, [], ◌∷◌, ◌++◌, map, length, take, drop, set, replicate, sym, refl, ap, ◌∙◌, ⊎_elim, add-one, arith, length-set, drop_of_length-le, take-suc-set, ltb-false, ltb-true}
-use denote.Enum.Declared.{tag_of}
-use types.Run.{OneOf}
+use Rattle.std.proofs.Common.{◌≡◌, ℕ, ◌+◌, ◌-◌, ◌<◌, ◌≤◌, Bool, true, false, ◌||◌, ltb, List, [], ◌∷◌, ◌++◌, map, length, take, drop, set, replicate, sym, refl, ap, ◌∙◌, add-one, arith, length-set, drop_of_length-le, take-suc-set, ltb-false, ltb-true}
 use lib.ListN.{length-replicate}
 use Rattle.octets.proofs.Every.{either}
 use Rattle.octets.specs.Places.{number_at}
@@ -10,7 +8,6 @@ use Rattle.file_lines.specs.Lines.{line_found}
 use Rattle.file_lines.specs.EncPart.{lines_of, enc_lines}
 use Rattle.file_lines.specs.declared.LineFound.{LineFound}
 use Rattle.file_lines.specs.declared.LineFound.TheVariants.{Line, Unended, End}
-use Rattle.file_lines.specs.contracts.LineFound.{the_type}
 use Rattle.file_lines.proofs.Walks.{at_line, at_end, at_unended, found_part}
 use Rattle.product_names.specs.Repeats.{stands_in, repeats, name_of, names_from}
 use Rattle.product_names.specs.Marking.{marked}
@@ -59,8 +56,8 @@ none_beyond list at h = rw (drop_of_length-le list h)
 
 -- where no line is found no name is left
 pub none_left : (list : List ℕ) (at : ℕ) → at ≤ length list → (found : LineFound) → found ≡ line_found list at
-    → OneOf (1 ∷ 2 ∷ []) (tag_of the_type found) → names_from list at ≡ []
-none_left list at h (Line end) e other = absurd (⊎_elim (λ k. omega arith) (λ k. omega arith) other)
+    → ((end : ℕ) → found ≡ Line end → ⊥) → names_from list at ≡ []
+none_left list at h (Line end) e other = absurd (other end refl)
 none_left list at h Unended e other = ap (map name_of) (at_unended list at h (sym e)).0
 none_left list at h End e other = ap (map name_of) (at_end list at (sym e)).0
 

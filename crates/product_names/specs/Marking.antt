@@ -1,5 +1,5 @@
 -- The marks by which a name is known to be new. Any places would do: all that is proved of them is that they lie among the marks. For contracts inside the crate alone.
-use Rattle.std.specs.Prelude.{ℕ, ◌+◌, ◌*◌, ◌/◌, ◌%◌, ◌^◌, Bool, ◌&&◌, List, set, ◌==◌, slice_index, slice_set}
+use Rattle.std.specs.Prelude.{ℕ, ◌+◌, ◌*◌, ◌/◌, ◌%◌, ◌^◌, Bool, ◌&&◌, List, ◌==◌, slice_index, slice_set}
 
 -- what a name's four places are worked out with
 abbrev pub factor1 : ℕ

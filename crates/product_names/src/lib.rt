@@ -1,13 +1,15 @@
 // Whether a name stands twice in a product list that need not be in name order.
 // The names of a block of rows are kept in an array, and each sets four of many marks. A name whose marks are not all set is new, which is so of nearly every one in a list that has none twice;
 // for the others the array is looked through. A list that was made to be slow costs a look through the array for each row.
+#![tactic(auto)]
+
 ghost use Rattle.std.specs.Prelude.{◌≡◌, ◌≤◌, length};
 ghost use Rattle.product_names.specs.Repeats.{stands_in, repeats, names_from};
 ghost use Rattle.product_names.specs.Marking.{mark_place, is_set, is_marked, marked};
 ghost use Rattle.product_names.specs.Blocks.{AllMarked, Says};
 
-use octets::numbers::number64;
 use file_lines::{LineFound, line_at};
+use octets::numbers::number64;
 use std::num::wrapping_add_u64;
 
 // How many rows a block has: a list of 20,000 is one block.

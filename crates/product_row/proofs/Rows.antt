@@ -12,7 +12,7 @@ use Rattle.product_row.specs.Fields.{fields_of, or_blank, is_degrees}
 use Rattle.product_row.specs.Row.{Form, first_forms, last_forms, fits, is_row, row_of, read_row}
 use Rattle.product_row.specs.Taking.{fields_left, taken_all}
 use Rattle.product_row.specs.Starts.{start_of}
-use Rattle.product_row.specs.declared.Start.{start_of_four}
+use Rattle.product_row.specs.declared.Start.{Start}
 use Rattle.product_row.specs.declared.Read.TheVariants.{Cell, Wrong}
 use Rattle.product_row.proofs.StartFields.{next_is, edition_is, update_is}
 use Rattle.product_row.proofs.TakenRows.{After, all_after, none_fits}
@@ -65,9 +65,9 @@ module _ (line : List ℕ) (n : ℕ) (is : suc n ≡ length (fields_of line)) wh
         rw (le-leb 16 (length (fields_of line)) (omega arith), le-leb (length (fields_of line)) 36 (omega arith))
         (ap (λ (k : ℕ). fits (first_forms ++ (degrees k ++ last_forms)) (fields_of line)) count)
 
-    module _ (start : start_of_four) (is-start : start ≡ start_of line) where
+    module _ (start : Start) (is-start : start ≡ start_of line) where
       next_place : start.next ≡ taken_all first_forms line 0
-      next_place = ap (λ (s : start_of_four). s.next) is-start ∙ next_is line
+      next_place = ap (λ (s : Start). s.next) is-start ∙ next_is line
 
       pub no_start : start.next ≡ 0 → Wrong ≡ read_row line
       no_start none = wrong (row_is ∙ sym (none_fits line rest first_forms 0 (omega arith) (omega arith) (sym next_place ∙ none)))
@@ -87,11 +87,11 @@ module _ (line : List ℕ) (n : ℕ) (is : suc n ≡ length (fields_of line)) wh
         rest-wrong bad = wrong (row-so ∙ bad)
 
         not_none : (start_of line).next ≡ 0 → ⊥
-        not_none e = some (ap (λ (s : start_of_four). s.next) is-start ∙ e)
+        not_none e = some (ap (λ (s : Start). s.next) is-start ∙ e)
 
         pub is-row : fits (degrees (n - 11) ++ last_forms) (fields_of (drop start.next line)) ≡ true
             → (name : ℕ) → name ≡ number_at 8 line 0
             → Cell (record { name = name; edition = start.edition; update = start.update }) ≡ read_row line
         unfolding read_row row_of
         is-row good name is_name =
-            rw (row-so ∙ good, is_name, ap (λ (s : start_of_four). s.edition) is-start ∙ edition_is line not_none, ap (λ (s : start_of_four). s.update) is-start ∙ update_is line not_none)
+            rw (row-so ∙ good, is_name, ap (λ (s : Start). s.edition) is-start ∙ edition_is line not_none, ap (λ (s : Start). s.update) is-start ∙ update_is line not_none)

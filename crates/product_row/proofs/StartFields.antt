@@ -3,7 +3,7 @@
 use mathlib.Core.Path.{◌≡◌, sym, ap, ◌∙◌}
 use mathlib.Core.Bool.{true, or-true}
 use mathlib.Core.List.{List, [], ◌∷◌}
-use Prim.Native.Nat.{ℕ, ◌-◌, ◌≤◌, ◌<◌}
+use Prim.Native.Nat.{ℕ, ◌≤◌, ◌<◌}
 use native.Mathlib.Omega.{arith}
 use borrow.Author.Tests.{eq-eqb, ne_eqb, eqb-true}
 use lib.Dec.{eqb}
@@ -14,7 +14,7 @@ use Rattle.product_row.specs.Fields.{fields_of, is_blank, or_blank, is_cell_file
 use Rattle.product_row.specs.Row.{Form, first_forms, field_after}
 use Rattle.product_row.specs.Taking.{field_ends, field_at, fields_left, taken, taken_all}
 use Rattle.product_row.specs.Starts.{no_start, start_of}
-use Rattle.product_row.specs.declared.Start.{start_of_four}
+use Rattle.product_row.specs.declared.Start.{Start}
 use Rattle.product_row.proofs.FieldLists.{next-fields, more_fields}
 use Rattle.product_row.proofs.TakenRows.{After, of-form, left_after, all-next, all_none, field-here, field-after, all_after, none_joined}
 
@@ -38,7 +38,7 @@ module _ (line : List ℕ) where
 
   start_some : (edition update next : ℕ) → next ≡ taken_all first_forms line 0 → (next ≡ 0 → ⊥)
       → edition ≡ decimal_number (field_after 2 (fields_of line)) → update ≡ decimal_number (field_after 4 (fields_of line))
-      → ◌≡◌ {A = start_of_four} (record { edition = edition; update = update; next = next }) (start_of line)
+      → ◌≡◌ {A = Start} (record { edition = edition; update = update; next = next }) (start_of line)
   unfolding start_of
   start_some edition update next is some e u =
       rw (ne_eqb (taken_all first_forms line 0) 0 (λ z. some (is ∙ z)), is, e, u)
@@ -134,7 +134,7 @@ module _ (line : List ℕ) (seven : 7 ≤ length (fields_of line)) (e : ℕ) (is
                 update-field = rw (next-fields line u update-ended)
 
                 pub all-six : (edition update : ℕ) → edition ≡ decimal_number (field_at line e) → update ≡ decimal_number (field_at line u)
-                    → ◌≡◌ {A = start_of_four} (record { edition = edition; update = update; next = n }) (start_of line)
+                    → ◌≡◌ {A = Start} (record { edition = edition; update = update; next = n }) (start_of line)
                 all-six edition update is-edition is-update =
                     start_some line edition update n (is-n ∙ whole) some-n
                     (is-edition ∙ ap decimal_number (sym (to-e.skipped 0 ∙ field-here (is_number 3 0) line e d is-d two-e some-d)))

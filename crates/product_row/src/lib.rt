@@ -1,4 +1,6 @@
 // A row of the product list, PRODUCTS.TXT: its fields are read in their order, and name, edition and update are taken of it.
+#![tactic(auto)]
+
 ghost use Rattle.std.specs.Prelude.{◌≡◌, [], ◌∷◌, ◌++◌, suc, ◌+◌, ◌<◌, ◌≤◌, length, drop, replicate};
 ghost use Rattle.product_row.specs.Fields.{fields_of, or_blank, is_cell_file, is_date_text, is_digits, is_number, is_degrees};
 ghost use Rattle.product_row.specs.Row.{last_forms, fits, read_row};
@@ -26,14 +28,14 @@ pub enum Read {
 
 // What the first six fields give: edition, update and the place after them, which is 0 where one of them is not of its form.
 #[derive(Clone, Copy)]
-struct start_of_four {
+struct Start {
     edition: u32,
     update: u32,
     next: usize,
 }
 
 // One of them is not of its form.
-const NO_START: start_of_four = start_of_four {
+const NO_START: Start = Start {
     edition: 0,
     update: 0,
     next: 0,
@@ -102,7 +104,7 @@ fn update_and_size(line: &[u8], at: usize) -> usize
 }
 
 // The first six fields.
-fn first_fields(line: &[u8]) -> start_of_four
+fn first_fields(line: &[u8]) -> Start
     requires { 7 ≤ length (fields_of line.now) }
     ensures { result ≡ start_of line.now }
 {
@@ -122,7 +124,7 @@ fn first_fields(line: &[u8]) -> start_of_four
     if next == 0 {
         return NO_START;
     }
-    start_of_four {
+    Start {
         edition: fields::value(line, edition_at),
         update: fields::value(line, update_at),
         next,

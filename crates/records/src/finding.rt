@@ -4,8 +4,8 @@ ghost use Rattle.tenants.specs.Together.{cell_in};
 ghost use Rattle.layout.specs.Layout.{record_size, used_length, record_place, record_at};
 ghost use Rattle.records.specs.Finding.{name_at, place_in, searched};
 
-use octets::numbers::{number16, number32, number40, number64};
 use layout::{RECORD_SIZE, RECORDS_PLACE};
+use octets::numbers::{number16, number32, number40, number64};
 use tenants::Held;
 
 // Where a cell stands among the records, or where it would go.

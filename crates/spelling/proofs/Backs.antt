@@ -1,7 +1,7 @@
 -- A text is taken exactly where it has its form, and text and value give each other back.
 -- Assumes nothing.
 use mathlib.Core.Path.{◌≡◌, refl, sym, ap, ◌∙◌}
-use mathlib.Core.Bool.{Bool, true, false, ◌&&◌}
+use mathlib.Core.Bool.{Bool, true, false}
 use mathlib.Core.List.{List}
 use Prim.Native.Nat.{ℕ, ◌^◌, ◌<◌}
 use native.Mathlib.Omega.{arith}
@@ -148,12 +148,12 @@ module _ (t : List ℕ) (word : is_word is_upper_hex 10 t ≡ true) where
 
   key_small : is_cell_key (hex_number t) ≡ true
   key_small =
-      let low : hex_number t < 16 ^ 10 = rw key_size at (alphabets.number-below hex t (alphabets.written-is-read hex t key_written)) in
+      let low : hex_number t < 16 ^ 10 = rw key_size at (alphabets.number_below hex t (alphabets.written_is_read hex t key_written)) in
       lt-ltb (hex_number t) (256 ^ 5) (omega arith)
 
   key_back : key_to (key_from t) ≡ t
   unfolding key_to
-  key_back = rw (key_value, key_small) (rw key_size at (alphabets.text-of-number hex t key_written))
+  key_back = rw (key_value, key_small) (rw key_size at (alphabets.text_of_number hex t key_written))
 
 key_other : (t : List ℕ) → is_word is_upper_hex 10 t ≡ false → is_cell_key (key_from t) ≡ false
 unfolding key_from
@@ -163,8 +163,8 @@ key_again : (x : ℕ) → is_cell_key x ≡ true → key_from (key_to x) ≡ x
 unfolding key_to
 key_again x is =
     rw is
-    (key_value (hex_text 10 x) (made_word is_upper_hex 10 (hex_text 10 x) (alphabets.text-length hex 10 x) (alphabets.text-written hex 10 x))
-    ∙ alphabets.number-of-text-fit hex 10 x (omega (arith, ltb-true x (256 ^ 5) is)))
+    (key_value (hex_text 10 x) (made_word is_upper_hex 10 (hex_text 10 x) (alphabets.text_length_lem hex 10 x) (alphabets.text_written_lem hex 10 x))
+    ∙ alphabets.number_of_text_fit hex 10 x (omega (arith, ltb-true x (256 ^ 5) is)))
 
 pub keys_back : KeysBack
 keys_back =
@@ -188,7 +188,7 @@ module _ (t : List ℕ) (word : is_date_word t ≡ true) where
   unfolding date_to
   date_back =
       rw (date_value, date_good)
-      (rw (word_length is_digit 8 t date_digits) at (alphabets.text-of-number decimal t (word_all is_digit 8 t date_digits)))
+      (rw (word_length is_digit 8 t date_digits) at (alphabets.text_of_number decimal t (word_all is_digit 8 t date_digits)))
 
 date_other : (t : List ℕ) → is_date_word t ≡ false → is_date (date_from t) ≡ false
 unfolding date_from is_date year within
@@ -197,9 +197,9 @@ date_other t miss = rw miss
 date_again : (x : ℕ) → is_date x ≡ true → date_from (date_to x) ≡ x
 unfolding date_to is_date_word
 date_again x is =
-    let number = alphabets.number-of-text-fit decimal 8 x (date_fits x is) in
+    let number = alphabets.number_of_text_fit decimal 8 x (date_fits x is) in
     let digits : is_word is_digit 8 (decimal_text 8 x) ≡ true =
-    made_word is_digit 8 (decimal_text 8 x) (alphabets.text-length decimal 8 x) (alphabets.text-written decimal 8 x)
+    made_word is_digit 8 (decimal_text 8 x) (alphabets.text_length_lem decimal 8 x) (alphabets.text_written_lem decimal 8 x)
     in
     rw is (date_value (decimal_text 8 x) (rw (digits, number) is) ∙ number)
 

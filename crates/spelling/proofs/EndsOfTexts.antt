@@ -84,7 +84,7 @@ unfolding key_to
 keys_read x =
     fine_read (key_to x)
     (either (is_cell_key x)
-    (λ is. rw is (rw (alphabets.text-length hex 10 x) (omega arith), hex_plain (hex_text 10 x) (alphabets.text-written hex 10 x)))
+    (λ is. rw is (rw (alphabets.text_length_lem hex 10 x) (omega arith), hex_plain (hex_text 10 x) (alphabets.text_written_lem hex 10 x)))
     (λ none. rw none nothing_fine))
 
 dates_read : ReadByC date_to
@@ -92,7 +92,7 @@ unfolding date_to
 dates_read x =
     fine_read (date_to x)
     (either (is_date x)
-    (λ is. rw is (rw (alphabets.text-length decimal 8 x) (omega arith), digits_plain (decimal_text 8 x) (alphabets.text-written decimal 8 x)))
+    (λ is. rw is (rw (alphabets.text_length_lem decimal 8 x) (omega arith), digits_plain (decimal_text 8 x) (alphabets.text_written_lem decimal 8 x)))
     (λ none. rw none nothing_fine))
 
 pub texts_end : TextsEnd

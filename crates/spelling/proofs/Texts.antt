@@ -1,13 +1,11 @@
 -- What C gets of a value: its text, or of what is none zeros alone.
 -- Assumes nothing.
-use mathlib.Core.Path.{◌≡◌, sym, ap, ◌∙◌}
+use mathlib.Core.Path.{◌≡◌, sym}
 use mathlib.Core.Bool.{Bool, true, false}
-use mathlib.Core.List.{List}
 use Prim.Native.Nat.{ℕ}
 use lib.ListN.{replicate}
 use Rattle.octets.specs.Numbers.{bytes_of}
 use Rattle.text.specs.Characters.{hex_text, decimal_text}
-use Rattle.text.specs.Texts.{placed}
 use Rattle.text.proofs.PlacedTexts.{placed_none}
 use Rattle.dates.specs.Calendar.{is_date}
 use Rattle.forms.specs.Identifiers.{is_text, is_cell_key}

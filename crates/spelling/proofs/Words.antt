@@ -9,7 +9,6 @@ use borrow.Author.Tests.{eqb-true, eq-eqb, le-leb}
 use lib.Dec.{eqb}
 use lib.ListN.{length, length-map}
 use lib.Seq.{take_all}
-use Rattle.octets.specs.Numbers.{bytes_number}
 use Rattle.octets.specs.Places.{number_at}
 use Rattle.octets.specs.Every.{all_of}
 use Rattle.octets.specs.declared.numbers.Reading.TheVariants.{Number, Wrong}
@@ -18,7 +17,6 @@ use Rattle.text.specs.Characters.{raised, raised_text, is_upper_hex, is_hex, hex
 use Rattle.text.specs.Texts.{part, all_at, hex_at}
 use Rattle.text.proofs.Notations.{hex}
 use Rattle.text.proofs.NumbersAt.{hex_number_lem, hex_wrong}
-use Rattle.dates.specs.Calendar.{is_date}
 use Rattle.forms.specs.DateText.{is_date_at, date_at}
 use Rattle.forms.proofs.DateTexts.{date_wrong, date_right, date_same}
 use Rattle.spelling.specs.Spelling.{is_word, none64, none32, identifier_from, hw_id_from, key_from, is_date_word, date_from}

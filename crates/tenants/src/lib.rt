@@ -1,4 +1,6 @@
 // What the rules for a tenant's own list of cells are about.
+#![tactic(auto)]
+
 ghost use Rattle.std.specs.Prelude.{◌≡◌};
 ghost use Rattle.tenants.specs.Rules.{is_last};
 

@@ -1,5 +1,5 @@
 -- Hex, written in upper case and read in either, and decimal are alphabets. Assumes nothing.
-use Rattle.std.proofs.Common.{◌≡◌, ℕ, ◌+◌, ◌-◌, ◌<◌, ◌≤◌, true, cond, eqb, ltb, leb, ◌∙◌, arith, eqb→eq, le-ltb, lt-ltb, leb-true}
+use Rattle.std.proofs.Common.{◌≡◌, ℕ, ◌+◌, ◌-◌, ◌<◌, ◌≤◌, true, cond, eqb, ltb, leb, arith, eqb→eq, le-ltb, lt-ltb, leb-true}
 use borrow.Author.Tests.{lt-leb}
 use lib.Bits.{bit_or}
 use Rattle.octets.proofs.Every.{and_first, and_second, either}

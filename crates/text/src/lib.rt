@@ -1,4 +1,6 @@
 // Texts: their characters, and texts at places.
+#![tactic(auto)]
+
 pub mod characters; // characters.rt: hex characters, digits, and the alphabets
 pub mod names; // names.rt: the characters of names and of hex, eight at once
 pub mod reading; // reading.rt: bytes and texts at places of a slice, and the numbers that they are

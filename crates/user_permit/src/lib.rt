@@ -1,4 +1,6 @@
 // A ship's user permit, made and read.
+#![tactic(auto)]
+
 ghost use Rattle.std.specs.Prelude.{◌≡◌, ◌++◌, ◌≤◌, length, drop};
 ghost use Rattle.octets.specs.Padding.{pad_of, unpad_of};
 ghost use Rattle.text.specs.Characters.{raised_text};
@@ -9,9 +11,9 @@ ghost use Rattle.forms.specs.Identifiers.{raised_hw_id};
 ghost use Rattle.forms.specs.Output.{written_of, lent_after};
 ghost use Rattle.user_permit.specs.UserPermit.{maker_words, user_permit, made, ship_of, permit_says, read_permit};
 
-use octets::numbers::Reading;
 use forms::Written;
 use forms::identifiers::{is_hw_id, is_upper_hw_id, raised_hw_id};
+use octets::numbers::Reading;
 use register::{Maker, is_register, key_of};
 use text::reading::hex_at;
 use text::writing::{put_hex, put_raised};

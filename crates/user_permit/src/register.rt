@@ -2,8 +2,8 @@
 ghost use Rattle.std.specs.Prelude.{◌≡◌, ◌*◌, ◌<◌, length};
 ghost use Rattle.user_permit.specs.Register.{is_entry, is_register, key_of};
 
-use octets::numbers::{number16, number40};
 use forms::identifiers::{is_m_id, is_m_key};
+use octets::numbers::{number16, number40};
 
 // The M_KEY of a manufacturer, or that its M_ID is not in the register.
 #[derive(Clone, Copy)]

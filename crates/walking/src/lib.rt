@@ -1,10 +1,12 @@
 // The walk through a book's records for a producer: whether one of them is of it.
+#![tactic(auto)]
+
 ghost use Rattle.std.specs.Prelude.{◌≡◌, ◌+◌, ◌-◌, ◌≤◌, length};
 ghost use Rattle.layout.specs.Layout.{record_size, used_length, record_place};
 ghost use Rattle.walking.specs.Walking.{producer_at, walked, any_among};
 
-use octets::numbers::number64;
 use layout::{RECORD_SIZE, RECORDS_PLACE};
+use octets::numbers::number64;
 
 // The producer of record i: the first two characters of its name.
 fn producer_at(book: &[u8], i: usize) -> u32

@@ -7,4 +7,4 @@ use Rattle.file_lines.proofs.are_past_cr.Goals as goal
 
 pub returns : goal.returns
 unfolding bytes_all
-returns c none = past_cr c.args.x c.wrapping_sub_u64.result (search rules) c.wrapping_sub_u64.ensures none
+returns c none = past_cr c.args.x c.wrapping_sub_u64.result (search rules) c.wrapping_sub_u64.ensures.value none

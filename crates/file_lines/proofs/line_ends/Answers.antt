@@ -1,8 +1,9 @@
 -- `file_lines::line_ends` meets its contract. The invariant: the line that begins at i ends where the one at the place ends.
 -- Assumes nothing.
-use Rattle.std.proofs.Common.{◌≡◌, ◌+◌, ◌-◌, ◌<◌, length, get_or, sym, ◌∙◌, ⊎_elim, arith}
+use Rattle.std.proofs.Common.{◌≡◌, ◌+◌, ◌<◌, length, get_or, sym, ◌∙◌, arith}
 use Rattle.file_lines.proofs.LineEnds.{ends_here, goes_on, goes_on_twice, ends_with_file}
 use Rattle.file_lines.proofs.line_ends.Goals as goal
+use Rattle.file_lines.proofs.line_ends.Goals.{then-file-i-eq13+else-file-i-eq10, else-file-i-eq13}
 
 pub loop-i-preserved-then-file-i-gt13 : goal.loop-i-preserved-then-file-i-gt13
 loop-i-preserved-then-file-i-gt13 c =
@@ -23,7 +24,8 @@ pub loop-i-preserved : goal.loop-i-preserved
 loop-i-preserved c =
     let s = c.args.file.now in
     let now = c.loop-i in
-    let never : get_or s now.i 0 ≡ 13 → get_or s (now.i + 1) 0 ≡ 10 → ⊥ = λ cr lf. ⊎_elim (λ w. w.2.left lf) (λ w. w.left cr) c.if-file-i-eq13.branch in (
+    let never : get_or s now.i 0 ≡ 13 → get_or s (now.i + 1) 0 ≡ 10 → ⊥ =
+    λ cr lf. elim c.if-file-i-eq13.branch [ then-file-i-eq13+else-file-i-eq10 w ↦ w.if-file-i-eq10.false lf | else-file-i-eq13 w ↦ w.if-file-i-eq13.false cr ] in (
       omega arith,
       sym (goes_on s now.i (omega arith) never) ∙ now.invariant.1,
     )

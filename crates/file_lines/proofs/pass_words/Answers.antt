@@ -1,6 +1,6 @@
 -- `file_lines::pass_words` meets its contract. The invariant is what it promises of the place that it hands back.
 -- Assumes nothing.
-use Rattle.std.proofs.Common.{◌≡◌, ℕ, ◌+◌, ◌-◌, ◌≤◌, true, ltb, length, sym, ap, ◌∙◌, arith}
+use Rattle.std.proofs.Common.{◌≡◌, ℕ, ◌+◌, ◌≤◌, true, ltb, length, sym, ap, ◌∙◌, arith}
 use Rattle.octets.specs.Numbers.{bytes_of}
 use Rattle.octets.specs.Every.{all_of}
 use Rattle.file_lines.proofs.Words.{word_passed}

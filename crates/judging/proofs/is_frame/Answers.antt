@@ -39,8 +39,6 @@ returns-then-not-are_principals c =
 
 pub returns : goal.returns
 returns c =
-    let principals = (goal.at.returns c).After-are_principals in
-    let settings = (goal.at.returns c).After-are_settings in
     let book = c.args.book.now in
     let used = used_length c.count-n.result in
     let n : c.count-n.result ≡ record_count book = c.count-n.ensures in

@@ -114,11 +114,11 @@ overflow_add-own c = omega (arith, c.up_to_16-own.ensures, up_to_most c.args.ten
 
 pub parts_from-requires : goal.parts_from-requires
 parts_from-requires c =
-    (
-  (omega arith, omega (arith, own_is (goal.at.parts_from-requires c).After-up_to_16-next, up_to_most (tenant (goal.at.parts_from-requires c).After-up_to_16-next))),
-  (omega (arith, used_is (goal.at.parts_from-requires c).After-up_to_16-next), omega (arith, used_is (goal.at.parts_from-requires c).After-up_to_16-next, book_holds (goal.at.parts_from-requires c).After-up_to_16-next, (framed (goal.at.parts_from-requires c).After-up_to_16-next).size), omega (arith, used_is (goal.at.parts_from-requires c).After-up_to_16-next)),
-
-)
+    let begun = (goal.at.parts_from-requires c).After-up_to_16-next in
+    record {
+      from_le_to = (omega arith, omega (arith, own_is begun, up_to_most (tenant begun)));
+      first_le_used = (omega (arith, used_is begun), omega (arith, used_is begun, book_holds begun, (framed begun).size), omega (arith, used_is begun));
+    }
 
 pub returns-in_default : goal.returns-in_default
 returns-in_default c =

@@ -1,6 +1,6 @@
 -- `line_shape::is_cipher_part` meets its contract.
 -- Assumes nothing.
-use Rattle.std.proofs.Common.{◌-◌, arith}
+use Rattle.std.proofs.Common.{arith}
 use Rattle.line_shape.proofs.Clean.{clean_start, clean_next, clean_end}
 use Rattle.line_shape.proofs.is_cipher_part.Goals as goal
 

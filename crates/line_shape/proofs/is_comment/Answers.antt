@@ -1,6 +1,6 @@
 -- `line_shape::is_comment` meets its contract.
 -- Assumes nothing.
-use Rattle.std.proofs.Common.{ℕ, ◌-◌, refl, ap, ◌∙◌, arith}
+use Rattle.std.proofs.Common.{ℕ, refl, ap, ◌∙◌, arith}
 use Rattle.octets.specs.Every.{all_of}
 use Rattle.text.specs.Characters.{is_printable}
 use Rattle.text.specs.Texts.{part}

@@ -9,4 +9,4 @@ returns c =
     let args = c.args in
     within_range args.low args.high args.c c.wrapping_sub_u8.result c.wrapping_sub_u8-2.result
     c.requires.0 c.requires.1 (omega arith) (omega arith) (omega arith)
-    c.wrapping_sub_u8.ensures c.wrapping_sub_u8-2.ensures
+    c.wrapping_sub_u8.ensures.value c.wrapping_sub_u8-2.ensures.value

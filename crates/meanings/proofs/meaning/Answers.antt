@@ -110,4 +110,4 @@ returns-in-112 c = c.spelled-in-112.ensures ∙ ap meant (sym c.in-112.is)
 
 pub returns-in_default : goal.returns-in_default
 unfolding meaning_by
-returns-in_default c = c.spelled-in_default.ensures ∙ ap spelled (sym (all_missed _ rows _ c.in_default.rest).1)
+returns-in_default c = c.spelled-in_default.ensures ∙ ap spelled (sym (all_missed _ rows _ c.in_default.in_default-own.rest).1)

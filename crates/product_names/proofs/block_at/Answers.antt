@@ -1,13 +1,13 @@
 -- `product_names::block_at` meets its contract. The invariant is `Looked`, which each way round keeps by one of its laws.
 -- Assumes nothing.
-use Rattle.std.proofs.Common.{◌≡◌, ℕ, ◌+◌, ◌-◌, ◌≤◌, List, [], ◌∷◌, length, sym, ap, ◌∙◌, ⊎_elim, arith, rules}
+use Rattle.std.proofs.Common.{◌≡◌, ℕ, ◌+◌, ◌≤◌, List, [], ◌∷◌, length, sym, ap, ◌∙◌, arith, rules}
 use Rattle.file_lines.specs.Lines.{line_found}
 use Rattle.file_lines.specs.declared.LineFound.TheVariants.{Line}
 use Rattle.file_lines.proofs.Walks.{line_bounds}
 use Rattle.product_names.specs.Repeats.{names_from}
 use Rattle.product_names.proofs.BlockTurns.{begun, name_first, none_beyond, none_left, twice, grown, passed, over, goes_on}
 use Rattle.product_names.proofs.block_at.Goals as goal
-use Rattle.product_names.proofs.block_at.Goals.{After-number64-name, In-Line, Left-loop-at}
+use Rattle.product_names.proofs.block_at.Goals.{After-number64-name, In-Line, Left-loop-at, else-loop-at-test, then-loop-at-test+in_default}
 
 pub loop-at-init : goal.loop-at-init
 loop-at-init c = begun c.args.list.now c.args.place (search rules)
@@ -34,9 +34,11 @@ module _ (k : After-number64-name) where
   abbrev name : ℕ
   name = k.number64-name.result
 
+  abbrev known : In-Line
+  known = (goal.at.After-number64-name k).In-Line
+
   first : names_from (list known) (at known) ≡ name ∷ names_from (list known) (end known + 2)
   first =
-      let known = (goal.at.After-number64-name k).In-Line in
       name_first (list known) (at known) (end known) (line known)
       ∙ ap (λ (n : ℕ). n ∷ names_from (list known) (end known + 2)) (sym k.number64-name.ensures)
 
@@ -86,8 +88,10 @@ nothing_left : (k : Left-loop-at) → names_from k.args.list.now k.loop-at.at �
 nothing_left k =
     let list = k.args.list.now in
     let at = k.loop-at.at in
-    ⊎_elim (λ w. none_beyond list at w.left) (λ w. none_left list at k.loop-at.invariant.within w.1.result w.1.ensures w.2.keys2)
-    k.loop-at-test.branch
+    elim k.loop-at-test.branch [
+      | else-loop-at-test w ↦ none_beyond list at w.loop-at-test.false
+      | then-loop-at-test+in_default w ↦ none_left list at k.loop-at.invariant.within w.line_at.result w.line_at.ensures w.in_default.not-Line
+    ]
 
 pub returns-then-at-next : goal.returns-then-at-next
 returns-then-at-next c = over c.loop-at.invariant (nothing_left (goal.at.returns-then-at-next c).Left-loop-at) c.if-at-next.true

@@ -13,4 +13,4 @@ overflow_mul-low c = record { fits = halves_fit _ _ (search rules) (search rules
 
 pub returns : goal.returns
 unfolding mark_place
-returns c = ap (λ (n : ℕ). n / 262144 % 262144) c.wrapping_add_u64.ensures
+returns c = ap (λ (n : ℕ). n / 262144 % 262144) c.wrapping_add_u64.ensures.value

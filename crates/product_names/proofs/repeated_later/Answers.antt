@@ -1,6 +1,6 @@
 -- `product_names::repeated_later` meets its contract. The invariant: the rows from the place on say what all say.
 -- Assumes nothing.
-use Rattle.std.proofs.Common.{◌≡◌, ◌-◌, sym, refl, ap, ◌∙◌, subst, arith}
+use Rattle.std.proofs.Common.{◌≡◌, sym, refl, ap, ◌∙◌, subst, arith}
 use Rattle.product_names.specs.Repeats.{repeats}
 use Rattle.product_names.specs.Blocks.{Says}
 use Rattle.product_names.specs.declared.Block.{Block}

@@ -1,6 +1,6 @@
 -- `product_names::stands_in` meets its contract. The invariant: what was found, or stands among the names that are left.
 -- Assumes nothing.
-use Rattle.std.proofs.Common.{◌-◌, ◌<◌, length, refl, ◌∙◌, arith, rules}
+use Rattle.std.proofs.Common.{◌<◌, length, refl, ◌∙◌, arith, rules}
 use Rattle.product_names.proofs.BlockLaws.{next_name, all_names}
 use Rattle.product_names.proofs.stands_in.Goals as goal
 

@@ -1,6 +1,5 @@
 -- `product_row::commas` meets its contract. The invariant: the commas counted and the fields that are left are all fields.
 -- Assumes nothing.
-use Prim.Native.Nat.{◌-◌}
 use native.Mathlib.Omega.{arith}
 use Rattle.product_row.proofs.FieldLists.{none_left}
 use Rattle.product_row.proofs.commas.Goals as goal

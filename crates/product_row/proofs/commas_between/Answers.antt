@@ -1,24 +1,21 @@
 -- `product_row::commas_between` meets its contract. The invariant: the commas counted and the fields from i on are those from the first place on.
 -- Assumes nothing.
 use mathlib.Core.Path.{◌≡◌, sym, ap, ◌∙◌}
-use mathlib.Core.Logic.{⊎_elim}
-use Prim.Native.Nat.{ℕ, ◌+◌, ◌-◌}
+use Prim.Native.Nat.{ℕ, ◌+◌}
 use native.Mathlib.Omega.{arith}
 use Rattle.product_row.specs.Taking.{fields_left}
 use Rattle.product_row.proofs.FieldLists.{comma-passed, other-passed}
 use Rattle.product_row.proofs.commas_between.Goals as goal
-
-pub loop-i-init : goal.loop-i-init
-loop-i-init c = (omega arith, omega arith, omega arith)
+use Rattle.product_row.proofs.commas_between.Goals.{then-line-i-eq44, else-line-i-eq44}
 
 pub loop-i-preserved : goal.loop-i-preserved
 loop-i-preserved c =
     let now = c.loop-i in
     let line = c.args.line.now in
-    ⊎_elim
-    (λ w. (omega arith, omega arith, omega (arith, comma-passed line now.i (omega arith) w.0.taken)))
-    (λ w. (omega arith, omega arith, omega (arith, other-passed line now.i (omega arith) w.0.left)))
-    c.if-line-i-eq44.branch
+    elim c.if-line-i-eq44.branch [
+      | then-line-i-eq44 w ↦ (omega arith, omega arith, omega (arith, comma-passed line now.i (omega arith) w.if-line-i-eq44.true))
+      | else-line-i-eq44 w ↦ (omega arith, omega arith, omega (arith, other-passed line now.i (omega arith) w.if-line-i-eq44.false))
+    ]
 
 pub returns : goal.returns
 returns c =

@@ -3,11 +3,12 @@
 use mathlib.Core.Path.{◌≡◌}
 use Prim.Native.Nat.{◌-◌, ◌≤◌, ◌<◌}
 use lib.ListN.{replicate}
+use Rattle.product_row.specs.Fields.{or_blank, is_degrees}
 use Rattle.product_row.specs.Taking.{fields_left, taken_all}
 use Rattle.product_row.proofs.degrees_fields.Given as goal
 
 abbrev pub invariant-loop-i : goal.invariant-loop-i
-invariant-loop-i l = (l.i ≤ l.n) × (l.n - l.i < fields_left l.line l.place) × (taken_all (replicate (l.n - l.i) form) l.line l.place ≡ taken_all (replicate l.n form) l.line l.at)
+invariant-loop-i l = (l.i ≤ l.n) × (l.n - l.i < fields_left l.line l.place) × (taken_all (replicate (l.n - l.i) (or_blank is_degrees)) l.line l.place ≡ taken_all (replicate l.n (or_blank is_degrees)) l.line l.at)
 
 abbrev pub decreases-loop-i : goal.decreases-loop-i
 decreases-loop-i l = l.n - l.i

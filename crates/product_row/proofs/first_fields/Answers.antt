@@ -34,20 +34,18 @@ returns-then-next-eq0 c =
     _ c.date_or_blank-update_at.ensures c.if-update_at-eq0.false _ c.update_and_size-next.ensures c.if-next-eq0.true
 
 pub value-requires : goal.value-requires
-value-requires c =
-    (
-      edition-ended _ c.requires _ c.name_and_date-edition_at.ensures c.if-edition_at-eq0.false,
-      edition-form _ c.requires _ c.name_and_date-edition_at.ensures c.if-edition_at-eq0.false _ c.number-issued_at.ensures c.if-issued_at-eq0.false,
-    )
+value-requires c = (
+  edition-ended _ c.requires _ c.name_and_date-edition_at.ensures c.if-edition_at-eq0.false,
+  edition-form _ c.requires _ c.name_and_date-edition_at.ensures c.if-edition_at-eq0.false _ c.number-issued_at.ensures c.if-issued_at-eq0.false,
+)
 
 pub value-requires-2 : goal.value-requires-2
-value-requires-2 c =
-    (
-      update-ended _ c.requires _ c.name_and_date-edition_at.ensures c.if-edition_at-eq0.false _ c.number-issued_at.ensures c.if-issued_at-eq0.false
-          _ c.date_or_blank-update_at.ensures c.if-update_at-eq0.false,
-      update-form _ c.requires _ c.name_and_date-edition_at.ensures c.if-edition_at-eq0.false _ c.number-issued_at.ensures c.if-issued_at-eq0.false
-          _ c.date_or_blank-update_at.ensures c.if-update_at-eq0.false _ c.update_and_size-next.ensures c.if-next-eq0.false,
-    )
+value-requires-2 c = (
+  update-ended _ c.requires _ c.name_and_date-edition_at.ensures c.if-edition_at-eq0.false _ c.number-issued_at.ensures c.if-issued_at-eq0.false
+      _ c.date_or_blank-update_at.ensures c.if-update_at-eq0.false,
+  update-form _ c.requires _ c.name_and_date-edition_at.ensures c.if-edition_at-eq0.false _ c.number-issued_at.ensures c.if-issued_at-eq0.false
+      _ c.date_or_blank-update_at.ensures c.if-update_at-eq0.false _ c.update_and_size-next.ensures c.if-next-eq0.false,
+)
 
 pub returns : goal.returns
 returns c =

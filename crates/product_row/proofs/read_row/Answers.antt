@@ -16,11 +16,10 @@ returns-then-next-eq0 c =
     no_start _ _ c.commas-n.ensures c.if-n-lt15.false c.if-n-gt35.false _ c.first_fields-start.ensures c.if-next-eq0.true
 
 pub rest_fits-requires : goal.rest_fits-requires
-rest_fits-requires c =
-    (
-      omega (arith, c.if-next-eq0.false),
-      rest-left _ _ c.commas-n.ensures c.if-n-lt15.false c.if-n-gt35.false _ c.first_fields-start.ensures c.if-next-eq0.false,
-    )
+rest_fits-requires c = (
+  omega (arith, c.if-next-eq0.false),
+  rest-left _ _ c.commas-n.ensures c.if-n-lt15.false c.if-n-gt35.false _ c.first_fields-start.ensures c.if-next-eq0.false,
+)
 
 pub returns-then-not-rest_fits : goal.returns-then-not-rest_fits
 returns-then-not-rest_fits c =

@@ -46,7 +46,7 @@ m_fits c = omega (arith, (third c).1, hex_bound 4 (permit (sized c)) 24 (third c
 hex_text : (c : In-Number-hex_at-2) → is_permit_text (permit (sized c)) ≡ true
 hex_text c =
     let two = (goal.at.In-Number-hex_at-2 c).In-Number-hex_at in
-    parts-hex _ (sized c).if1.false (first (goal.at.In-Number-hex_at-2 c).In-Number).0 (second two).0 (third c).0
+    parts-hex _ (sized c).if-permit-ne28.false (first (goal.at.In-Number-hex_at-2 c).In-Number).0 (second two).0 (third c).0
 
 right_crc : (c : Else-check-crc_of) → is_crc_right (permit (sized (goal.at.Else-check-crc_of c).In-Number-hex_at-2)) ≡ true
 right_crc c =
@@ -72,7 +72,7 @@ returns-in_default-hex_at-2 c =
     sym (says_no_text _ _ (no_text (permit sized) c.if-permit-ne28.false 4 24 (third_hex (permit sized)) (hex_wrong 4 (permit sized) 24 (omega arith) (sym c.hex_at-3.ensures ∙ c.in_default-hex_at-2.is))))
 
 pub crc_of-requires : goal.crc_of-requires
-crc_of-requires c = omega (arith, (sized (goal.at.crc_of-requires c).In-Number-hex_at-2).if1.false)
+crc_of-requires c = omega (arith, (sized (goal.at.crc_of-requires c).In-Number-hex_at-2).if-permit-ne28.false)
 
 pub returns-then-check-crc_of : goal.returns-then-check-crc_of
 returns-then-check-crc_of c =

@@ -1,6 +1,6 @@
 -- `file_lines::texts::lfs_among` meets its contract. The invariant: those among the first i bytes are counted.
 -- Assumes nothing.
-use Rattle.std.proofs.Common.{◌≡◌, ℕ, ◌+◌, ◌-◌, ◌≤◌, Bool, cond, eqb, get_or, sym, refl, ap, ◌∙◌, arith, rules}
+use Rattle.std.proofs.Common.{◌≡◌, ℕ, ◌+◌, ◌≤◌, Bool, cond, eqb, get_or, sym, refl, ap, ◌∙◌, arith, rules}
 use Rattle.octets.specs.Every.{count_of}
 use Rattle.octets.proofs.Every.{either}
 use Rattle.text.specs.Texts.{part}

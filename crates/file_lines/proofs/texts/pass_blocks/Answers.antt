@@ -1,6 +1,6 @@
 -- `file_lines::texts::pass_blocks` meets its contract. The invariant is what it promises of the place that it hands back.
 -- Assumes nothing.
-use Rattle.std.proofs.Common.{◌+◌, ◌-◌, ◌≤◌, length, sym, ◌∙◌, arith}
+use Rattle.std.proofs.Common.{◌+◌, ◌≤◌, length, sym, ◌∙◌, arith}
 use Rattle.file_lines.proofs.TextEnds.{none_counted}
 use Rattle.file_lines.proofs.texts.pass_blocks.Goals as goal
 

@@ -1,6 +1,6 @@
 -- `file_lines::texts::text_ends` meets its contract. The invariant: the text that begins at i ends where the one at the place ends.
 -- Assumes nothing.
-use Rattle.std.proofs.Common.{◌-◌, sym, ◌∙◌, arith}
+use Rattle.std.proofs.Common.{sym, ◌∙◌, arith}
 use Rattle.file_lines.proofs.TextEnds.{ends_beyond, ends_here, goes_on, ends_with_file}
 use Rattle.file_lines.proofs.texts.text_ends.Goals as goal
 

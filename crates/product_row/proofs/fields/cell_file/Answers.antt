@@ -37,12 +37,12 @@ returns-then-not-are_name_characters c =
 
 pub returns-then-not-stands_at : goal.returns-then-not-stands_at
 returns-then-not-stands_at c =
-    let read = (goal.at.returns-then-not-stands_at c).Else-not-are_name_characters in
+    let read = (goal.at.returns-then-not-stands_at c).After-are_name_characters in
     no-ending _ _ c.requires (below read) c.if-line-at-lt13.false (sym (name_test read) ∙ c.if-not-are_name_characters.false)
     (sym c.stands_at.ensures ∙ c.if-not-stands_at.true)
 
 pub returns : goal.returns
 returns c =
-    let read = (goal.at.returns c).Else-not-are_name_characters in
+    let read = (goal.at.returns c).After-are_name_characters in
     is-file _ _ c.requires (below read) c.if-line-at-lt13.false (sym (name_test read) ∙ c.if-not-are_name_characters.false)
     (sym c.stands_at.ensures ∙ c.if-not-stands_at.false) c.if-line-at-ne44.false

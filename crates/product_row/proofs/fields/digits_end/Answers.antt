@@ -1,7 +1,6 @@
 -- `product_row::fields::digits_end` meets its contract. The loop's invariant: the digits from i on end where those from the place do.
 -- Assumes nothing.
 use mathlib.Core.Path.{refl, sym, ◌∙◌}
-use Prim.Native.Nat.{◌-◌}
 use Rattle.product_row.proofs.DigitPlaces.{inside, digit_ended, digit_next, digit_none}
 use Rattle.product_row.proofs.fields.digits_end.Goals as goal
 

@@ -22,10 +22,10 @@ module _ (x : Else-line-at-eq44) where
   at = x.args.at
 
   ended : field_ends line at < length line
-  ended = x.pre.0
+  ended = x.requires.0
 
   some : 1 ≤ field_length line at
-  some = starts_other line at ended x.if-line-at-eq44.left
+  some = starts_other line at ended x.if-line-at-eq44.false
 
   second_within : at + 1 < length line
   second_within = within line at ended 1 some
@@ -36,7 +36,7 @@ module _ (y : Else-line-at-eq44-2) where
   first = (goal.at.Else-line-at-eq44-2 y).Else-line-at-eq44
 
   more : 2 ≤ field_length (line first) (at first)
-  more = goes_on (line first) (at first) (ended first) 1 (some first) y.if-line-at-eq44-2.left
+  more = goes_on (line first) (at first) (ended first) 1 (some first) y.if-line-at-eq44-2.false
 
   third_within : at first + 2 < length (line first)
   third_within = within (line first) (at first) (ended first) 2 more
@@ -49,8 +49,8 @@ module _ (z : Else-line-at-eq44-3) where
   all_three : field_length (line (first second)) (at (first second)) ≡ 3
   all_three =
       let x = first second in
-      let third = goes_on (line x) (at x) (ended x) 2 (more second) z.if-line-at-eq44-3.left in
-      omega (arith, few (line x) (at x) (ended x) x.before.before.before.pre.1 x.if1.left)
+      let third = goes_on (line x) (at x) (ended x) 2 (more second) z.if-line-at-eq44-3.false in
+      omega (arith, few (line x) (at x) (ended x) x.requires.1 x.if-line-at-eq44.false)
 
 pub bounds-line-at : goal.bounds-line-at
 bounds-line-at c = inside _ _ c.requires.0
@@ -103,6 +103,6 @@ returns c =
     let y = second z in
     let x = first y in
     ap₂ (λ (a b : ℕ). a * 10 + b)
-    (ap₂ (λ (a b : ℕ). a * 10 + b) y.before.before.digit_value.ensures c.digit_value.ensures)
+    (ap₂ (λ (a b : ℕ). a * 10 + b) c.digit_value-one.ensures c.digit_value.ensures)
     c.digit_value-2.ensures
     ∙ sym (three-value (line x) (at x) (ended x) (all_three z))

@@ -10,7 +10,7 @@ use Rattle.layout.specs.Layout.{record_size, used_length, record_place}
 use Rattle.records.proofs.Searching.{count_most}
 use Rattle.records.proofs.Guarded.{put_in, put-too-far, no_room}
 use Rattle.records.proofs.moving.insert_record.Goals as goal
-use Rattle.records.proofs.moving.insert_record.Goals.{After-count-n, Then-used-book}
+use Rattle.records.proofs.moving.insert_record.Goals.{After-count-n, Then-used-book, else-i-n-via-then-i-n+else-used-book, else-i-n-via-else-i-n}
 
 -- so many records at most are told
 few : (k : After-count-n) → k.count-n.result ≤ 178956966
@@ -28,13 +28,10 @@ overflow_add-used-then-i-n c = omega (arith, few (goal.at.overflow_add-used-then
 
 -- there is room for one record more, and the place is no further than those there are
 module _ (c : Then-used-book) where
-  abbrev counted : After-count-n
-  counted = (goal.at.Then-used-book c).After-count-n
-
-  room : used_length counted.count.result + record_size ≤ length counted.before.before.before.args.book.now
+  room : used_length c.count-n.result + record_size ≤ length c.args.book.now
   room = c.if-used-book.true
 
-  inside : record_place counted.before.before.before.args.i ≤ used_length counted.count.result
+  inside : record_place c.args.i ≤ used_length c.count-n.result
   inside = omega (arith, c.if-i-n.true)
 
 pub slice_bounds-open_gap-count : goal.slice_bounds-open_gap-count
@@ -63,8 +60,7 @@ returns-then-used-book c =
 pub returns-else-i-n : goal.returns-else-i-n
 returns-else-i-n c =
     let start = c.args in
-    ⊎_elim
-    (λ w.
-    no_room start.book.now _ start.i c.count-n.ensures (in_book start.tenant start.cell) (leb-false _ _ w.1.left) w.0.taken)
-    (λ w. put-too-far start.book.now _ start.i c.count-n.ensures (in_book start.tenant start.cell) w.left)
-    c.else-i-n.branch
+    elim c.else-i-n.branch [
+      else-i-n-via-then-i-n+else-used-book w ↦ no_room start.book.now _ start.i c.count-n.ensures (in_book start.tenant start.cell) w.if-used-book.false w.if-i-n.true
+      | else-i-n-via-else-i-n w ↦ put-too-far start.book.now _ start.i c.count-n.ensures (in_book start.tenant start.cell) w.if-i-n.false
+    ]

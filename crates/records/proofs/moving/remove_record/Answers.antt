@@ -9,7 +9,7 @@ use Rattle.layout.specs.Layout.{record_size, used_length, record_place}
 use Rattle.records.proofs.Searching.{count_most}
 use Rattle.records.proofs.Guarded.{taken_out, none_there, not_within}
 use Rattle.records.proofs.moving.remove_record.Goals as goal
-use Rattle.records.proofs.moving.remove_record.Goals.{After-count-n, Then-used-book}
+use Rattle.records.proofs.moving.remove_record.Goals.{After-count-n, Then-used-book, else-i-n-via-then-i-n+else-used-book, else-i-n-via-else-i-n}
 
 -- so many records at most are told
 few : (k : After-count-n) → k.count-n.result ≤ 178956966
@@ -24,13 +24,10 @@ overflow_add-used c = omega (arith, few (goal.at.overflow_add-used c).After-coun
 
 -- the records lie within the book, and this one is among them
 module _ (c : Then-used-book) where
-  abbrev counted : After-count-n
-  counted = (goal.at.Then-used-book c).After-count-n
-
-  within : used_length counted.count.result ≤ length counted.before.before.before.args.book.now
+  within : used_length c.count-n.result ≤ length c.args.book.now
   within = c.if-used-book.true
 
-  inside : record_place counted.before.before.before.args.i + record_size ≤ used_length counted.count.result
+  inside : record_place c.args.i + record_size ≤ used_length c.count-n.result
   inside = omega (arith, c.if-i-n.true)
 
 pub slice_bounds-close_gap-count : goal.slice_bounds-close_gap-count
@@ -54,7 +51,7 @@ returns-then-used-book c =
 pub returns-else-i-n : goal.returns-else-i-n
 returns-else-i-n c =
     let start = c.args in
-    ⊎_elim
-    (λ w. not_within start.book.now _ start.i c.count-n.ensures (leb-false _ _ w.1.left) w.0.taken)
-    (λ w. none_there start.book.now _ start.i c.count-n.ensures w.left)
-    c.else-i-n.branch
+    elim c.else-i-n.branch [
+      else-i-n-via-then-i-n+else-used-book w ↦ not_within start.book.now _ start.i c.count-n.ensures w.if-used-book.false w.if-i-n.true
+      | else-i-n-via-else-i-n w ↦ none_there start.book.now _ start.i c.count-n.ensures w.if-i-n.false
+    ]

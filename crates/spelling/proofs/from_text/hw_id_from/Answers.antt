@@ -14,11 +14,11 @@ returns-then-text-ne5 c = no_hw_id c.args.text.now (ne_eqb _ _ c.if-text-ne5.tru
 pub returns-then-not-is_word : goal.returns-then-not-is_word
 returns-then-not-is_word c =
     let whole = raised_whole 5 c.args.text.now _ c.if-text-ne5.false c.put_raised.ensures in
-    no_identifier none64 is_upper_hex 5 _ (sym c.is_IsWord.ensures ∙ c.if-not-is_word.true) ∙ ap (identifier_from none64 is_upper_hex 5) whole
+    no_identifier none64 is_upper_hex 5 _ (sym c.is_word.ensures ∙ c.if-not-is_word.true) ∙ ap (identifier_from none64 is_upper_hex 5) whole
 
 pub returns : goal.returns
 returns c =
     let whole = raised_whole 5 c.args.text.now _ c.if-text-ne5.false c.put_raised.ensures in
     c.number40.ensures
-    ∙ identifier_of none64 is_upper_hex 5 _ (sym c.is_IsWord.ensures ∙ c.if-not-is_word.false)
+    ∙ identifier_of none64 is_upper_hex 5 _ (sym c.is_word.ensures ∙ c.if-not-is_word.false)
     ∙ ap (identifier_from none64 is_upper_hex 5) whole

@@ -21,10 +21,10 @@ read c = sym c.hex_at.ensures ∙ c.in-Number.is
 
 -- ten characters of 0-9 A-F
 word : (c : Else-not-is_word) → is_word is_upper_hex 10 c.args.text.now ≡ true
-word c = sym c.is_IsWord.ensures ∙ c.if-not-is_word.false
+word c = sym c.is_word.ensures ∙ c.if-not-is_word.false
 
 pub returns-then-not-is_word : goal.returns-then-not-is_word
-returns-then-not-is_word c = no_key _ (sym c.is_IsWord.ensures ∙ c.if-not-is_word.true)
+returns-then-not-is_word c = no_key _ (sym c.is_word.ensures ∙ c.if-not-is_word.true)
 
 pub returns-in-Number : goal.returns-in-Number
 returns-in-Number c = key-taken (text (goal.at.returns-in-Number c).In-Number) (word (goal.at.returns-in-Number c).Else-not-is_word) _ (read (goal.at.returns-in-Number c).In-Number)

@@ -1,5 +1,5 @@
 -- `text::reading::all_of` meets its contract. The loop's invariant: the bytes before the place have all passed. Assumes nothing.
-use Rattle.std.proofs.Common.{◌-◌, sym, ◌∙◌, leb-false, leb-true}
+use Rattle.std.proofs.Common.{sym, ◌∙◌, leb-false, leb-true}
 use Rattle.text.proofs.TextsAt.{all_beyond, from_start, from_next, from_wrong, from_end}
 use Rattle.text.proofs.reading.all_of.Goals as goal
 

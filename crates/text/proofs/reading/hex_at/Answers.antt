@@ -1,5 +1,5 @@
 -- `text::reading::hex_at` meets its contract. The loop's invariant: x is the number of the characters read. Assumes nothing.
-use Rattle.std.proofs.Common.{◌+◌, ◌-◌, ◌*◌, ◌^◌, ◌<◌, sym, ◌∙◌, arith, leb-false, leb-true}
+use Rattle.std.proofs.Common.{◌+◌, ◌*◌, ◌^◌, ◌<◌, sym, ◌∙◌, arith, leb-false, leb-true}
 use Rattle.text.specs.Texts.{hex_at}
 use Rattle.text.proofs.Notations.{hex}
 use Rattle.text.proofs.NumbersAt.{read_at, number-too-long, number-refused, read_start, read_next, read-wrong, read_fits, read-end}

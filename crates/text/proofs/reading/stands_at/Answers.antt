@@ -1,5 +1,5 @@
 -- `text::reading::stands_at` meets its contract. The loop's invariant: the bytes before the place are those of the text. Assumes nothing.
-use Rattle.std.proofs.Common.{◌-◌, sym, ◌∙◌, leb-false, leb-true}
+use Rattle.std.proofs.Common.{sym, ◌∙◌, leb-false, leb-true}
 use Rattle.text.proofs.SameTexts.{stands_beyond, stands_start, stands-next, stands-wrong, stands-end}
 use Rattle.text.proofs.reading.stands_at.Goals as goal
 

@@ -1,5 +1,5 @@
 -- `text::writing::put_raised` meets its contract. The loop's invariant: of the text's bytes the first i are there. Assumes nothing.
-use Rattle.std.proofs.Common.{◌-◌, sym, ◌∙◌, leb-false, leb-true}
+use Rattle.std.proofs.Common.{sym, ◌∙◌, leb-false, leb-true}
 use Rattle.text.proofs.PutTexts.{put_all, raised_none, raised_more, raised_beyond}
 use Rattle.text.proofs.writing.put_raised.Goals as goal
 

@@ -1,5 +1,5 @@
 -- `text::writing::put_text` meets its contract. The loop's invariant: of the text's bytes the first i are there. Assumes nothing.
-use Rattle.std.proofs.Common.{◌-◌, sym, refl, ◌∙◌, leb-false, leb-true}
+use Rattle.std.proofs.Common.{sym, refl, ◌∙◌, leb-false, leb-true}
 use Rattle.text.proofs.PlacedTexts.{placed_beyond}
 use Rattle.text.proofs.PutTexts.{put_none, put-more, put_all}
 use Rattle.text.proofs.writing.put_text.Goals as goal
