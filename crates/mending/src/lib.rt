@@ -27,7 +27,7 @@ pub enum Answer {
     Refused(u32),
 }
 
-// Whether a file of so many bytes surely fits, whatever is in it (the laws file-room and list-room): then nothing need be measured.
+// Whether a file of so many bytes surely fits, whatever is in it (the laws file_room_lem and list_room_lem): then nothing need be measured.
 fn surely_fits(size: usize, room: Lengths) -> bool
     requires { size < 2 ^ 63 }
     ensures { result ≡ true → SurelyFits size room }
