@@ -10,7 +10,7 @@ use Rattle.text.specs.Texts.{placed}
 use Rattle.text.proofs.PlacedTexts.{length-placed}
 use Rattle.layout.specs.Layout.{book_size, used_length}
 use Rattle.carrying.proofs.OldForms.{Formed, form_facts}
-use Rattle.carrying.proofs.Puts.{wider-put}
+use Rattle.carrying.proofs.Puts.{wider_put}
 use Rattle.carrying.proofs.put_book.Goals as goal
 use Rattle.carrying.proofs.put_book.Goals.{After-old_count, Start}
 
@@ -53,7 +53,7 @@ put_records-requires c =
 pub returns : goal.returns
 returns c =
     let counted = (goal.at.returns c).After-old_count in
-    wider-put (book counted) (below counted) (formed counted)
+    wider_put (book counted) (below counted) (formed counted)
     (start counted).args.new.now c.put_text.new.out c.put_text-2.new.out c.put_text-3.new.out _
     (start counted).requires.1
     c.put_text.ensures

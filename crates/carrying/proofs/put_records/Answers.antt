@@ -11,7 +11,7 @@ use Rattle.text.specs.Texts.{part, placed}
 use Rattle.layout.specs.Layout.{one, record_size_by, record_count_by, record_place_by, record_place, zeros}
 use Rattle.judging.proofs.Parts.{part_lent_lem}
 use Rattle.carrying.proofs.OldForms.{Formed, form_facts}
-use Rattle.carrying.proofs.Puts.{records_none, records-next, records-all}
+use Rattle.carrying.proofs.Puts.{records_none, records_next, records_all}
 use Rattle.carrying.proofs.put_records.Goals as goal
 use Rattle.carrying.proofs.put_records.Goals.{After-old_count-n, In-loop-i, Start}
 
@@ -63,7 +63,7 @@ put_record-requires c =
 pub loop-i-preserved : goal.loop-i-preserved
 loop-i-preserved c =
     let turn = (goal.at.loop-i-preserved c).In-loop-i in
-    records-next (book (counted turn)) (below (counted turn)) (formed (counted turn)) c.loop-i.invariant (more turn) _
+    records_next (book (counted turn)) (below (counted turn)) (formed (counted turn)) c.loop-i.invariant (more turn) _
     (c.put_record.ensures ∙ ap (λ (l : List ℕ). placed (record_place (i turn)) (l ++ zeros 4) c.loop-i.new) (lent turn))
 
 pub shape_of-new : goal.shape_of-new
@@ -72,4 +72,4 @@ shape_of-new c = c.loop-i.invariant.put.same
 pub returns : goal.returns
 returns c =
     let counted = (goal.at.returns c).After-old_count-n in
-    records-all (book counted) (below counted) (formed counted) c.loop-i.invariant (omega (arith, c.old_count-n.ensures, c.loop-i-test.false))
+    records_all (book counted) (below counted) (formed counted) c.loop-i.invariant (omega (arith, c.old_count-n.ensures, c.loop-i-test.false))
