@@ -1,7 +1,6 @@
 -- `judging::are_principals` meets its contract. The invariant: the tenants before t may name as they do.
 -- Assumes nothing.
 use mathlib.Core.Path.{sym, ◌∙◌}
-use Prim.Native.Nat.{◌-◌}
 use Rattle.judging.specs.Judging.{principals_test}
 use Rattle.layout.proofs.AllFrom.{passed_none, passed-next, passed_all, one_fails}
 use Rattle.judging.proofs.are_principals.Goals as goal

@@ -1,6 +1,5 @@
 -- `judging::is_zero` meets its contract. The invariant: which bytes are taken together, and which are left.
 -- Assumes nothing.
-use Prim.Native.Nat.{◌-◌}
 use Rattle.judging.proofs.Zeros.{zeros_start, zeros-next, zeros_end}
 use Rattle.judging.proofs.is_zero.Goals as goal
 
