@@ -1,7 +1,6 @@
 -- `walking::walk` meets its contract. The invariant: the rest of the walk decides.
 -- Assumes nothing.
 use mathlib.Core.Path.{refl, sym, ◌∙◌}
-use Prim.Native.Nat.{◌-◌}
 use native.Mathlib.Numerals.{add-one}
 use native.Mathlib.Omega.{arith}
 use Rattle.walking.proofs.Stops.{left_none, left-later, left_there, left-next}

@@ -1,6 +1,5 @@
 -- `records::finding::place_of` meets its contract. The invariant: to halve what is left, from low to high, ends at the place.
 -- Assumes nothing.
-use Prim.Native.Nat.{◌-◌}
 use native.Mathlib.Omega.{arith}
 use borrow.Author.Rules.{rules}
 use Rattle.records.proofs.Searching.{all_left, left_up, left_down, none_left}

@@ -1,9 +1,7 @@
 -- `records::moving::insert_record` meets its contract: a gap, the record in it, and the used length; or nothing.
 -- Assumes nothing.
-use mathlib.Core.Logic.{⊎_elim}
 use Prim.Native.Nat.{◌+◌, ◌≤◌}
 use native.Mathlib.Omega.{arith}
-use borrow.Author.Tests.{leb-true, leb-false}
 use lib.ListN.{length, length-take, length-drop}
 use Rattle.tenants.specs.Together.{in_book}
 use Rattle.layout.specs.Layout.{record_size, used_length, record_place}
@@ -61,6 +59,6 @@ pub returns-else-i-n : goal.returns-else-i-n
 returns-else-i-n c =
     let start = c.args in
     elim c.else-i-n.branch [
-      else-i-n-via-then-i-n+else-used-book w ↦ no_room start.book.now _ start.i c.count-n.ensures (in_book start.tenant start.cell) w.if-used-book.false w.if-i-n.true
+      | else-i-n-via-then-i-n+else-used-book w ↦ no_room start.book.now _ start.i c.count-n.ensures (in_book start.tenant start.cell) w.if-used-book.false w.if-i-n.true
       | else-i-n-via-else-i-n w ↦ put-too-far start.book.now _ start.i c.count-n.ensures (in_book start.tenant start.cell) w.if-i-n.false
     ]

@@ -1,7 +1,7 @@
 -- `records::moving::open_gap` meets its contract. The loop's invariant: the bytes from j on are moved.
 -- Assumes nothing.
 use mathlib.Core.Path.{◌≡◌}
-use Prim.Native.Nat.{◌-◌, ◌≤◌}
+use Prim.Native.Nat.{◌≤◌}
 use lib.ListN.{length}
 use Rattle.layout.specs.Layout.{record_size}
 use Rattle.records.proofs.Shifts.{up_from}

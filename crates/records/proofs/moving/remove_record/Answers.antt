@@ -1,9 +1,7 @@
 -- `records::moving::remove_record` meets its contract: the gap is closed, and the used length written; or nothing.
 -- Assumes nothing.
-use mathlib.Core.Logic.{⊎_elim}
 use Prim.Native.Nat.{◌+◌, ◌≤◌}
 use native.Mathlib.Omega.{arith}
-use borrow.Author.Tests.{leb-true, leb-false}
 use lib.ListN.{length, length-take, length-drop}
 use Rattle.layout.specs.Layout.{record_size, used_length, record_place}
 use Rattle.records.proofs.Searching.{count_most}
@@ -52,6 +50,6 @@ pub returns-else-i-n : goal.returns-else-i-n
 returns-else-i-n c =
     let start = c.args in
     elim c.else-i-n.branch [
-      else-i-n-via-then-i-n+else-used-book w ↦ not_within start.book.now _ start.i c.count-n.ensures w.if-used-book.false w.if-i-n.true
+      | else-i-n-via-then-i-n+else-used-book w ↦ not_within start.book.now _ start.i c.count-n.ensures w.if-used-book.false w.if-i-n.true
       | else-i-n-via-else-i-n w ↦ none_there start.book.now _ start.i c.count-n.ensures w.if-i-n.false
     ]
