@@ -1,4 +1,6 @@
 // The tenant calls that leave the book as it is: ask the edition, ask for a producer, issue a line, check a line.
+#![tactic(auto)]
+
 ghost use Rattle.std.specs.Prelude.{◌≡◌, true, ◌&&◌, ◌≤◌, leb, length};
 ghost use Rattle.dates.specs.Calendar.{is_date};
 ghost use Rattle.forms.specs.Identifiers.{is_cell_name};

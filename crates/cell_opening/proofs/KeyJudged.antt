@@ -15,7 +15,7 @@ use Rattle.text.proofs.PlacedTexts.{placed_start, placed-next}
 use Rattle.crc32.specs.Crc32.{crc32_of}
 use Rattle.blowfish.specs.Cipher.{decipher_of}
 use Rattle.blocks.specs.Blocks.{each_block, blocks_put}
-use Rattle.blocks.proofs.EachBlocks.{each-block-length}
+use Rattle.blocks.proofs.EachBlocks.{each_block-length}
 use Rattle.blocks.proofs.Cuts.{each_before}
 use Rattle.blocks.proofs.Puts.{put_start}
 use Rattle.cell_file.specs.Enciphering.{most, cell_words}
@@ -52,7 +52,7 @@ module _ (key crc : ℕ) (file words : List ℕ) (form : has_blocks file ≡ tru
 
   pub all_length : length (deciphered key file) ≡ length file
   unfolding deciphered
-  all_length = let says = blocks_say file form in each-block-length (decipher_of (cell_words key)) (length file / 8) file ∙ omega (arith, says.1)
+  all_length = let says = blocks_say file form in each_block-length (decipher_of (cell_words key)) (length file / 8) file ∙ omega (arith, says.1)
 
   module _ (n : ℕ) (eight zeros : List ℕ) (size : length zeros ≡ 8)
       (put : eight ≡ blocks_put (decipher_of words) (take (length file - (length file - 8)) (drop (length file - 8) file)) zeros) (found : n ≡ padding_in eight) where
@@ -111,8 +111,8 @@ text_put d file out o eight zeros after size form room short long z e l is =
     let a = before d file form in
     let b = last d file form in
     let k = size - whole in
-    let size-a : length a ≡ whole = before_length d file form in
-    let size-b : length b ≡ 8 = last_length d file form in
+    let size_a : length a ≡ whole = before_length d file form in
+    let size_b : length b ≡ 8 = last_length d file form in
     let front : length (take whole file) ≡ whole = length-take-le whole file (omega arith) in
     let blocks : length (take whole file) / 8 ≡ length file / 8 - 1 = omega (arith, front, says.0, says.1) in
     let same : wholes d (take whole file) ≡ a =
@@ -120,14 +120,14 @@ text_put d file out o eight zeros after size form room short long z e l is =
     ∙ sym (each_before d (length file / 8 - 1) (take whole file) (drop whole file) (omega (arith, front, says.0)))
     ∙ ap (each_block d (length file / 8 - 1)) (take-append-drop whole file) in
     let start : o ≡ placed 0 a out =
-    e ∙ put_start d (take whole file) out (omega (arith, front)) ∙ ap (λ (t : List ℕ). t ++ drop (length t) out) same ∙ sym (placed_start a out (omega (arith, size-a))) in
+    e ∙ put_start d (take whole file) out (omega (arith, front)) ∙ ap (λ (t : List ℕ). t ++ drop (length t) out) same ∙ sym (placed_start a out (omega (arith, size_a))) in
     let t = a ++ take k b in
-    let size-k : length (take k b) ≡ k = length-take-le k b (omega (arith, size-b)) in
-    let all : length a + k ≡ size = omega (arith, size-a) in
+    let size-k : length (take k b) ≡ k = length-take-le k b (omega (arith, size_b)) in
+    let all : length a + k ≡ size = omega (arith, size_a) in
     let text : t ≡ take size (wholes d file) = sym (take-append-add a b k) ∙ ap₂ take all (sym (in_two d file form)) in
     let size-t : length t ≡ size = length-append a (take k b) ∙ omega (arith, size-k) in
     is
     ∙ ap₂ (placed whole) (ap (take k) (l ∙ last_put d file form zeros z)) start
-    ∙ placed-next 0 whole a (take k b) out (omega (arith, size-a)) (omega (arith, size-a, size-k))
+    ∙ placed-next 0 whole a (take k b) out (omega (arith, size_a)) (omega (arith, size_a, size-k))
     ∙ placed_start t out (omega (arith, size-t))
     ∙ ap₂ (λ (x : List ℕ) (n : ℕ). x ++ drop n out) text size-t

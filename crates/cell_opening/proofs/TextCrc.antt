@@ -12,7 +12,7 @@ use Rattle.octets.proofs.Every.{either}
 use Rattle.crc32.specs.Crc32.{all_ones, feed_all, crc32_of}
 use Rattle.crc32.proofs.Feeding.{fed_more}
 use Rattle.blocks.specs.Blocks.{each_block, blocks_of_both, blocks_put}
-use Rattle.blocks.proofs.EachBlocks.{each-block-length, worked_length}
+use Rattle.blocks.proofs.EachBlocks.{each_block-length, worked_length}
 use Rattle.blocks.proofs.Cuts.{each_cut}
 use Rattle.cell_opening.specs.Judging.{wholes}
 
@@ -36,7 +36,7 @@ module _ (d : ℕ → ℕ) (file out : List ℕ) where
       let says = both_say in
       let rest = length file / 8 - k in
       let all : length file / 8 ≡ k + rest = omega (arith, says.1.0) in
-      let size = each-block-length d k file in
+      let size = each_block-length d k file in
       let within : n ≤ length (each_block d k file) = omega (arith, size, says.0, says.1.0, says.1.1) in
       take-append-le n (each_block d k file) (drop (8 * k) out) within
       ∙ sym (ap (λ (m : ℕ). take n (each_block d m file)) all
@@ -56,7 +56,7 @@ module _ (d : ℕ → ℕ) (file : List ℕ) (size : ℕ) (fits : size ≤ 8 * (
   plain = take size (wholes d file)
 
   plain_length_lem : length plain ≡ size
-  plain_length_lem = length-take-le size (wholes d file) (omega (arith, each-block-length d (length file / 8) file))
+  plain_length_lem = length-take-le size (wholes d file) (omega (arith, each_block-length d (length file / 8) file))
 
   module _ (at : ℕ) (whole : at % 8 ≡ 0) (more : at < size) where
     -- the part of the file from there on, as it is lent
@@ -82,12 +82,12 @@ module _ (d : ℕ → ℕ) (file : List ℕ) (size : ℕ) (fits : size ≤ 8 * (
         ap (wholes d) onward-is
         ∙ ap₂ (λ (k n : ℕ). each_block d k (drop n file)) count (sym place)
         ∙ sym (ap (drop at) (ap (λ (k : ℕ). each_block d k file) all ∙ each_cut d m rest file (omega arith))
-        ∙ drop_at (each_block d m file) (each_block d rest (drop (8 * m) file)) at (each-block-length d m file ∙ place))
+        ∙ drop_at (each_block d m file) (each_block d rest (drop (8 * m) file)) at (each_block-length d m file ∙ place))
 
     left-plain : drop at plain ≡ take (size - at) (drop at (wholes d file))
     left-plain =
         let w = wholes d file in
-        let long : size ≤ length w = omega (arith, each-block-length d (length file / 8) file) in
+        let long : size ≤ length w = omega (arith, each_block-length d (length file / 8) file) in
         let all : size ≡ at + (size - at) = omega arith in
         ap (λ (k : ℕ). drop at (take k w)) all
         ∙ ap (drop at) (take-add at (size - at) w)

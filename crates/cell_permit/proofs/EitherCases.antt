@@ -1,6 +1,6 @@
 -- The case of letters does not matter: what is read of a line's cipher parts goes by their text with letters raised, and all else stands outside them.
 -- Assumes nothing.
-use mathlib.Core.Path.{◌≡◌, refl, sym, ap, ap₂, ◌∙◌}
+use mathlib.Core.Path.{◌≡◌, sym, ap, ap₂, ◌∙◌}
 use mathlib.Core.Bool.{Bool}
 use mathlib.Core.List.{List, ◌++◌, map-append}
 use Prim.Native.Nat.{ℕ, ◌+◌, ◌-◌, ◌≤◌}
@@ -13,7 +13,6 @@ use Rattle.text.specs.Characters.{raised, raised_text, is_digit, is_hex, is_name
 use Rattle.text.specs.Texts.{part, all_at}
 use Rattle.text.proofs.Raising.{same_hex, same_number, same_part, same_length}
 use Rattle.text.proofs.TextsAt.{part_join, part_of_part, same_within}
-use Rattle.forms.specs.Identifiers.{raised_hw_id}
 use Rattle.forms.specs.DateText.{is_date_at}
 use Rattle.forms.proofs.HwIds.{same_form}
 use Rattle.cell_permit.specs.CellPermit.{ship_words, written_line}

@@ -1,4 +1,6 @@
 // The calls that change the book: enter a cell, withdraw one, set warning days. A tenant is answered the number alone.
+#![tactic(auto)]
+
 ghost use Rattle.std.specs.Prelude.{◌≡◌};
 ghost use Rattle.tenants.specs.Rules.{change_number};
 ghost use Rattle.changing.specs.Changing.{entry, withdrawal, new_days, bytes_after};

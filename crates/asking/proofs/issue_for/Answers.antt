@@ -17,24 +17,21 @@ use Rattle.layout.proofs.Indexed.{own_setting}
 use Rattle.records.proofs.OwnFound.{finds_held, finds_none}
 use Rattle.asking.proofs.AnswerRules.{answered_same, line_refused, line-absent, line-late, line-held}
 use Rattle.asking.proofs.issue_for.Goals as goal
-use Rattle.asking.proofs.issue_for.Goals.{After-cell_at-held, After-in_time, In-Ship, Start}
+use Rattle.asking.proofs.issue_for.Goals.{After-cell_at-held, After-in_time, In-Ship}
 
 pub returns-in-Refused : goal.returns-in-Refused
 returns-in-Refused c = refused _ _ _ (line_refused _ _ _ _ _ _ _ c.in-Refused.is)
 
 -- where the ship is known
 module _ (f : In-Ship) where
-  abbrev start : Start
-  start = (goal.at.In-Ship f).Start
-
   abbrev s : List ℕ
-  s = start.args.book.now
+  s = f.args.book.now
 
   abbrev t : ℕ
-  t = start.args.tenant
+  t = f.args.tenant
 
   abbrev name : ℕ
-  name = start.args.name
+  name = f.args.name
 
   small : name < names
   small = search rules
@@ -44,7 +41,7 @@ returns-in_default c =
     let f = (goal.at.returns-in_default c).In-Ship in
     refused _ 104 _
     (line-absent _ _ _ _ _ _ _ _ c.in-Ship.is
-    (finds_none (s f) (t f) (name f) _ (start f).requires.0.0 (small f) (sym (start f).requires.1 ∙ c.in_default.is)))
+    (finds_none (s f) (t f) (name f) _ f.requires.book_value.0 (small f) (sym f.requires.found_value ∙ c.in_default.is)))
 
 -- the cell that the search found is the tenant's own of that name, and whether it may be sold was asked of it
 module _ (c : After-in_time) where
@@ -52,29 +49,29 @@ module _ (c : After-in_time) where
   held = (goal.at.After-in_time c).After-cell_at-held
 
   abbrev first : In-Ship
-  first = held.before.before.before.before
+  first = (goal.at.After-in_time c).In-Ship
 
-  found : cell_of (name first) (own_in (s first) (t first)).cells ≡ some held.Cell-at.result
+  found : cell_of (name first) (own_in (s first) (t first)).cells ≡ some held.cell_at-held.result
   found =
-      finds_held (s first) (t first) (name first) _ (start first).pre.0.0 (small first)
-      (sym (start first).pre.1 ∙ held.before.before.found.given.1)
-      ∙ ap some (sym held.Cell-at.ensures)
+      finds_held (s first) (t first) (name first) _ c.requires.book_value.0 (small first)
+      (sym c.requires.found_value ∙ c.in-At.is)
+      ∙ ap some (sym held.cell_at-held.ensures)
 
 pub returns-then-not-in_time : goal.returns-then-not-in_time
 returns-then-not-in_time c =
     let f = first (goal.at.returns-then-not-in_time c).After-in_time in
     refused _ 112 _
-    (line-late _ _ _ _ _ _ _ _ f.before.ship.given.1 _ (found (goal.at.returns-then-not-in_time c).After-in_time) (sym c.in_time.ensures ∙ c.if-not-in_time.true))
+    (line-late _ _ _ _ _ _ _ _ c.in-Ship.is _ (found (goal.at.returns-then-not-in_time c).After-in_time) (sym c.in_time.ensures ∙ c.if-not-in_time.true))
 
 pub returns : goal.returns
 returns c =
     let it = (goal.at.returns c).After-in_time in
     let f = first it in
-    let args = (start f).args in
-    let hw = f.before.ship.given.0.0 in
+    let args = c.args in
+    let hw = c.in-Ship.hw_id in
     answered_same _ _ _ _ _
-    (line-held args.expiry args.level (length args.out.now) _ _ _ _ _ f.before.ship.given.1 _ _
-    (found it) (own_setting (s f) (t f) (start f).pre.0.1) (sym c.in_time.ensures ∙ c.if-not-in_time.false)
-    ∙ sym (ap (λ (own : Setting). written_line hw (line_cell own (held it).Cell-at.result args.expiry args.level) (length args.out.now))
+    (line-held args.expiry args.level (length args.out.now) _ _ _ _ _ c.in-Ship.is _ _
+    (found it) (own_setting (s f) (t f) c.requires.book_value.1) (sym c.in_time.ensures ∙ c.if-not-in_time.false)
+    ∙ sym (ap (λ (own : Setting). written_line hw (line_cell own c.cell_at-held.result args.expiry args.level) (length args.out.now))
     c.setting_of.ensures))
     c.write_line.ensures

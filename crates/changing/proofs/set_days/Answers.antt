@@ -5,7 +5,6 @@ use mathlib.Core.Bool.{true}
 use mathlib.Core.List.{List}
 use Prim.Native.Nat.{ℕ, ◌≤◌}
 use native.Mathlib.Omega.{arith}
-use borrow.Author.Tests.{not-false}
 use Rattle.dates.specs.Notice.{is_days}
 use Rattle.tenants.specs.Rules.{change_number}
 use Rattle.tenants.proofs.Ranges.{tenant_is, tenant_not, days_below}
@@ -14,25 +13,22 @@ use Rattle.layout.proofs.Frame.{book_frame}
 use Rattle.changing.proofs.ChangeRules.{refused, days_damaged, days-outside, days-unfit}
 use Rattle.changing.proofs.Done.{days_set}
 use Rattle.changing.proofs.set_days.Goals as goal
-use Rattle.changing.proofs.set_days.Goals.{Else-not-is_book, Else-not-is_days, Else-tenant-gt15, Start}
+use Rattle.changing.proofs.set_days.Goals.{Else-not-is_book, Else-not-is_days, Else-tenant-gt15}
 
 -- what is known once the book is found undamaged, and the tenant is one
 module _ (e : Else-not-is_book) where
-  abbrev start : Start
-  start = e.before.before.before.before
-
   abbrev s : List ℕ
-  s = start.args.book.now
+  s = e.args.book.now
 
   undamaged : is_book s ≡ true
-  undamaged = sym e.is_book.ensures ∙ not-false _ e.if-not-is_book.left
+  undamaged = sym e.is_book.ensures ∙ e.if-not-is_book.false
 
 module _ (e : Else-tenant-gt15) where
   abbrev t : ℕ
-  t = (start (goal.at.Else-tenant-gt15 e).Else-not-is_book).args.tenant
+  t = e.args.tenant
 
   tenant : t ≤ 15
-  tenant = e.if-tenant-gt15.left
+  tenant = e.if-tenant-gt15.false
 
 -- and once the days are found fit
 module _ (e : Else-not-is_days) where
@@ -40,13 +36,13 @@ module _ (e : Else-not-is_days) where
   second = (goal.at.Else-not-is_days e).Else-tenant-gt15
 
   abbrev first : Else-not-is_book
-  first = second.before
+  first = (goal.at.Else-not-is_days e).Else-not-is_book
 
   abbrev days : ℕ
-  days = (start first).args.days
+  days = e.args.days
 
   fit : is_days days ≡ true
-  fit = sym e.is_days.ensures ∙ not-false _ e.if-not-is_days.left
+  fit = sym e.is_days.ensures ∙ e.if-not-is_days.false
 
 pub returns-then-not-is_book : goal.returns-then-not-is_book
 returns-then-not-is_book c =
@@ -57,13 +53,13 @@ returns-then-not-is_book c =
 pub returns-then-tenant-gt15 : goal.returns-then-tenant-gt15
 returns-then-tenant-gt15 c =
     let e = (goal.at.returns-then-tenant-gt15 c).Else-not-is_book in
-    refused change_number _ _ _ 102 (days-outside (s e) (start e).args.tenant (start e).args.days (undamaged e) (tenant_not _ c.if-tenant-gt15.true))
+    refused change_number _ _ _ 102 (days-outside (s e) e.args.tenant e.args.days (undamaged e) (tenant_not _ c.if-tenant-gt15.true))
 
 pub returns-then-not-is_days : goal.returns-then-not-is_days
 returns-then-not-is_days c =
     let e = (goal.at.returns-then-not-is_days c).Else-tenant-gt15 in
     refused change_number _ _ _ 103
-    (days-unfit (s (goal.at.returns-then-not-is_days c).Else-not-is_book) (t e) (start (goal.at.returns-then-not-is_days c).Else-not-is_book).args.days (undamaged (goal.at.returns-then-not-is_days c).Else-not-is_book) (tenant_is _ (tenant e))
+    (days-unfit (s (goal.at.returns-then-not-is_days c).Else-not-is_book) (t e) c.args.days (undamaged (goal.at.returns-then-not-is_days c).Else-not-is_book) (tenant_is _ (tenant e))
     (sym c.is_days.ensures ∙ c.if-not-is_days.true))
 
 pub overflow_cast-book : goal.overflow_cast-book

@@ -1,7 +1,7 @@
 -- `user_permit::register::key_of` meets its contract. The invariant: what is found is among the first i entries.
 -- Assumes nothing.
 use mathlib.Core.Path.{◌≡◌}
-use Prim.Native.Nat.{◌-◌, ◌/◌, ◌≤◌}
+use Prim.Native.Nat.{◌/◌, ◌≤◌}
 use lib.ListN.{length}
 use Rattle.user_permit.specs.Register.{key_among, key_of}
 use Rattle.user_permit.proofs.register.key_of.Given as goal
