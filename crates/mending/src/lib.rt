@@ -1,4 +1,6 @@
 // A mailed permit file mended: the whole file, and the whole list of what was wrong with it.
+#![tactic(auto)]
+
 ghost use Rattle.std.specs.Prelude.{◌≡◌, true, ◌<◌, ◌^◌, length};
 ghost use Rattle.mending.specs.Mending.{mended_of, is_mended, mending};
 ghost use Rattle.mending.specs.Answers.{answer_of, file_lent, list_lent};

@@ -23,7 +23,7 @@ module _ (c : After-old_count) where
   book = start.args.book.now
 
   formed : Formed book
-  formed = form_facts book start.pre.0
+  formed = form_facts book start.requires.0
 
   below : Below 256 book
   below k = omega (arith, c.type_inv.book k)
@@ -37,8 +37,8 @@ overflow_add-old_count c = omega (arith, c.old_count.ensures, (formed (goal.at.o
 pub overflow_cast-old_count : goal.overflow_cast-old_count
 overflow_cast-old_count c = omega (arith, c.old_count.ensures, (formed (goal.at.overflow_cast-old_count c).After-old_count).few)
 
-pub slice_bounds-put_text-end : goal.slice_bounds-put_text-end
-slice_bounds-put_text-end c = omega (arith, (formed c.before.before.before.before.before.before.before.before.before.before.before.before).size)
+pub slice_bounds-put_text-end-3 : goal.slice_bounds-put_text-end-3
+slice_bounds-put_text-end-3 c = omega (arith, (formed (goal.at.slice_bounds-put_text-end-3 c).After-old_count).size)
 
 pub put_records-requires : goal.put_records-requires
 put_records-requires c =

@@ -24,7 +24,7 @@ module _ (c : After-old_count-n) where
   book = start.args.book.now
 
   formed : Formed book
-  formed = form_facts book start.pre.0
+  formed = form_facts book start.requires.0
 
   below : Below 256 book
   below k = omega (arith, c.type_inv.book k)
@@ -41,7 +41,7 @@ module _ (c : In-loop-i) where
   i = c.loop-i.i
 
   more : i < record_count_by one (book counted)
-  more = omega (arith, counted.old-count.ensures, c.loop-i-test.true)
+  more = omega (arith, counted.old_count-n.ensures, c.loop-i-test.true)
 
   inside : record_place_by one i + record_size_by one ≤ length (book counted)
   inside = omega (arith, more, (formed counted).size, (formed counted).few)
@@ -57,7 +57,7 @@ pub put_record-requires : goal.put_record-requires
 put_record-requires c =
     let turn = (goal.at.put_record-requires c).In-loop-i in (
       ap length (lent turn) ∙ part_length (record_size_by one) (book (counted turn)) (record_place_by one (i turn)) (inside turn),
-      omega (arith, more turn, (formed (counted turn)).few, c.loop-i.invariant.put.same, (start (counted turn)).pre.1),
+      omega (arith, more turn, (formed (counted turn)).few, c.loop-i.invariant.put.same, (start (counted turn)).requires.1),
     )
 
 pub loop-i-preserved : goal.loop-i-preserved

@@ -1,6 +1,5 @@
 -- `opening::clear` meets its contract: the bytes before place i are zero.
 -- Assumes nothing.
-use Prim.Native.Nat.{◌-◌}
 use native.Mathlib.Omega.{arith}
 use Rattle.opening.proofs.FirstBook.{cleared_none, cleared-next, cleared-all}
 use Rattle.opening.proofs.clear.Goals as goal

@@ -1,6 +1,5 @@
 -- `opening::put_settings` meets its contract: the settings before that of tenant t are put.
 -- Assumes nothing.
-use Prim.Native.Nat.{◌-◌}
 use native.Mathlib.Omega.{arith}
 use Rattle.opening.proofs.FirstBook.{settings_none, settings-next, settings-all}
 use Rattle.opening.proofs.put_settings.Goals as goal
