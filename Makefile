@@ -20,14 +20,12 @@ HEADER = target/include/lambukir.h
 PREFIX = /usr/local
 PLACE = $(DESTDIR)$(PREFIX)
 
-# rt waits for a whole batch of its jobs: one more than it would take by itself fills the gaps
-export RT_JOBS ?= $(shell n=$$(nproc); echo $$((n < 4 ? n + 1 : 5)))
-
 COMPARISONS = $(basename $(notdir $(shell grep -l run_subjects tests/*.c)))
 MODEL = $(addprefix target/tests/,model.o model_book.o model_cell_file.o model_file.o model_mending.o model_products.o)
 
-# what a crate is made of: its own files and those of all that it uses, and their folders, which tell of a file taken away
-files_of = crates.txt $(foreach crate,$(shell tests/crates $(1)),$(shell find crates/$(crate) -name must-fail -prune -o -print))
+# what a crate is made of: its own files and those of all that it uses, and their folders, which tell of a file taken away. Not the crate's own folder,
+# whose time goes with out/, which rt makes in it.
+files_of = crates.txt $(foreach crate,$(shell tests/crates $(1)),$(shell find crates/$(crate) -mindepth 1 \( -name must-fail -o -name out \) -prune -o -print))
 
 .PHONY: help run test bench lib install built proved comparisons
 
@@ -75,7 +73,7 @@ built: $(filter lib,$(MAKECMDGOALS))
 	@[ "$$(find $(LIBRARY) $(HEADER) $(SHARED) -newermt @0 ! -newer $(SHARED) 2>/dev/null | wc -l)" -eq 3 ] || \
 		{ echo 'There is no library to install, or not all of one build: make lib comes first.' >&2; exit 1; }
 	@newer=$$(find crates.txt include/lambukir.h $(addprefix crates/,$(shell tests/crates lambukir)) \
-		-name must-fail -prune -o -type f -newer $(SHARED) -print | head -n 1); \
+		\( -name must-fail -o -name out \) -prune -o -type f -newer $(SHARED) -print | head -n 1); \
 		[ -z "$$newer" ] || echo "This installs what was built before $$newer changed." >&2
 
 # programs and library in one count
@@ -100,14 +98,15 @@ $(HEADER): include/lambukir.h
 	@cp $< $@
 
 # All of the archive, and nothing that runs as it is loaded. It exports what the header declares, and a call within it stays within it, as is proved.
+# Its three names are of one file: rt ci takes no symbolic link.
 $(SHARED): $(LIBRARY) $(HEADER) | target/compiler
 	@rm -rf $(@D)
 	@mkdir -p $(@D)
 	@{ echo '{ global:'; sed -n 's/^\(lambukir_[a-z0-9_]*\)(.*/\1;/p' $(HEADER); echo 'local: *; };'; } >$(@D)/exported
 	@$(CC) -shared -nostartfiles -o $@ -Wl,--whole-archive $(LIBRARY) -Wl,--no-whole-archive -Wl,-soname,$(SONAME) \
 		-Wl,--version-script=$(@D)/exported -Wl,-Bsymbolic -Wl,--no-undefined -Wl,-z,text,-z,relro,-z,now,-z,noexecstack
-	@ln -s $(@F) $(@D)/$(SONAME)
-	@ln -s $(SONAME) $(@D)/liblambukir.so
+	@ln $@ $(@D)/$(SONAME)
+	@ln $@ $(@D)/liblambukir.so
 
 # what the samples and the shared library need of others
 target/compiler: tests/packages

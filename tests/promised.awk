@@ -1,16 +1,13 @@
 # The reader of tests/promised: it finds each public function's head in Rattle's text, and judges it. What it cannot read it reports.
 
 BEGIN {
-    # where an operator may come from: with another meaning, what reads as an equality would be none
-    enter(home, "_≡_", "mathlib.Core.Path")
-    enter(home, "_+_ _-_ _*_ _/_ _%_ _^_ _≤_ _<_", "Prim.Native.Nat")
-    enter(home, "_&&_ _||_", "mathlib.Core.Bool")
-    enter(home, "_∷_ _++_", "mathlib.Core.List")
-    enter(home, "now ptr", "denote.Ref")
+    # where an operator comes from: with another meaning, what reads as an equality would be none
+    prelude = "Rattle.std.specs.Prelude"
+    enter(home, "◌≡◌ ◌+◌ ◌-◌ ◌*◌ ◌/◌ ◌%◌ ◌^◌ ◌≤◌ ◌<◌ ◌&&◌ ◌||◌ ◌∷◌ ◌++◌ ◌==◌ if◌then◌else◌", prelude)
     # what may stand in a value besides names and numerals
-    enter(in_value, "( ) . + - * / % ^ && || ∷ ++ []", 1)
-    # antt's own words, which are no names
-    enter(reserved, "data record deriving module where use mod pub package using open as unfoldable abbrev axiom unfold unfolding", 1)
+    enter(in_value, "( ) + - * / % ^ && || ∷ ++ [] ==", 1)
+    # words of clauses and antt's own, which are no names
+    enter(reserved, "result data record deriving module where use mod pub package using open as unfoldable abbrev axiom unfold unfolding", 1)
     enter(reserved, "ruleset mutual infix infixl infixr elim let in do Type coe fcoe tcoe hcom com V vin vproj inS outS", 1)
 }
 
@@ -50,7 +47,7 @@ function end_file() {
     if (mode == "use" || comments || text) report(last_line, "the file", "ends within an import, a comment or a text")
     if (in_head && !is_public) report(head_line, token_at[1], "is open at the end of the file")
     if (in_head) end_head()
-    if (first_public && !brought) report(first_public, "the file", "does not bring in _≡_ of mathlib.Core.Path")
+    if (first_public && !brought) report(first_public, "the file", "does not bring in ◌≡◌ of " prelude)
 }
 
 # mode: "" for Rattle's text; antt's is that of a "clause", from its { to its }, and of a "use", to its ;
@@ -72,7 +69,7 @@ function read(rest,    size, token) {
         } else if (mode != "") {
             size = match(rest, /^[^ \t\r(){}.;,@"]+/) ? RLENGTH : 1
             token = substr(rest, 1, size)
-            # a . that joins a module's name to one of its names, where other dots lead to a field
+            # a . that leads to a field, or from a module's name to one of its names
             if (token == "." && !spaced && rest ~ /^\.[^ \t\r]/) token = "::"
             if (token ~ /^--|"/ || rest ~ /^\{-/ || !is_quoted(token) && token ~ /«|»/)
                 report(FNR, in_head ? token_at[1] : "the file", "has a comment or a text in antt, which is not read")
@@ -99,9 +96,15 @@ function read(rest,    size, token) {
     }
 }
 
-# a name with an underscore, as antt writes it
+# a name that is also a word of antt's, as a clause writes it
 function is_quoted(token) {
-    return token ~ /^«[A-Za-z0-9]*_[A-Za-z0-9_]*»$/
+    return token ~ /^«[A-Za-z0-9_]+»$/
+}
+
+# the name itself
+function bare(token) {
+    gsub(/«|»/, "", token)
+    return token
 }
 
 # lead has the tokens since the last item or part of one
@@ -174,19 +177,22 @@ function judge_use(    k, module, what) {
     if (imported[k] == "{" && imported[sizes] == "}") {
         while (++k < sizes) {
             what = imported[k]
-            if ((what ~ /_/ || what in home) && home[what] != module) report(FNR, "the file", "brings in " what " from " module)
-            if (what == "_≡_" && home[what] == module) brought = 1
+            if (what ~ /◌/ && home[what] != module) report(FNR, "the file", "brings in " what " from " module)
+            if (what == "◌≡◌" && home[what] == module) brought = 1
             if (imported[++k] != "," && k != sizes) report(FNR, "the file", "brings in " what " in a form that is not read")
         }
-    } else if (imported[k + 1] == "as" && k + 2 == sizes) alias[imported[sizes]] = 1
+    } else if (imported[k + 1] == "as" && k + 2 == sizes && imported[sizes] !~ /◌/) alias[imported[sizes]] = 1
     else report(FNR, "the file", "has an import in a form that is not read")
 }
 
 # ---- a public function
 
-function judge(    answer, word, ensured, from) {
+function judge(    answer, word, ensured, is_read, from) {
     count++
     lents = 0
+    is_read = 1
+    split("", told)
+    split("", given)
     if (!first_public) first_public = head_line
     at = 2
     if (!parameters()) {
@@ -205,12 +211,19 @@ function judge(    answer, word, ensured, from) {
         word = token_at[at++]
         # the clause may have a name
         if (token_at[at] != "{") at++
+        if (token_at[at] != "{") {
+            wrong("has a clause in a form that is not read")
+            return
+        }
         from = ++at
         for (level = 1; at <= tokens && level > 0; at++) level += (token_at[at] == "{") - (token_at[at] == "}")
         if (word == "requires") wrong("requires something")
-        else if (ensured++) wrong("has a second ensures")
-        else if (promise(from, at - 2)) all_told(answer)
+        else {
+            ensured = 1
+            if (!equalities(from, at - 2)) is_read = 0
+        }
     }
+    if (ensured && is_read) all_told(answer)
     if (!ensured) wrong("promises nothing")
     if (token_at[at] == "") wrong("is open at the end of the file")
     else if (token_at[at] != "{") wrong("has " token_at[at] " before its body")
@@ -233,6 +246,7 @@ function parameters(    x, kind) {
             kind = type()
         }
         if (kind == "") return 0
+        given[x] = 1
         if (kind == "&mut") lent[++lents] = x
         if (token_at[at] == ",") at++
         else if (token_at[at] != ")") return 0
@@ -271,17 +285,7 @@ function path() {
     return path()
 }
 
-# ---- its promise, the tokens a to b: λ r. ⌜ .. ⌝ or λ _. ⌜ .. ⌝
-
-function promise(a, b) {
-    split("", told)
-    bound = token_at[a + 1]
-    if (token_at[a] != "λ" || bound !~ /^[r_]$/ || token_at[a + 2] != "." || token_at[a + 3] != "⌜" || token_at[b] != "⌝") {
-        wrong("promises in another form than { λ r. ⌜ .. ⌝ }")
-        return 0
-    }
-    return equalities(a + 4, b - 1)
-}
+# ---- its promises: the tokens a to b of a clause
 
 # one equality, or several in parentheses, joined by × and by nothing else
 function equalities(a, b,    k, deep, from) {
@@ -321,15 +325,11 @@ function equality(a, b,    k, deep, middle, left) {
         wrong("promises something else than an equality")
         return 0
     }
-    for (k = a; k < middle; k++) left = left (token_at[k] ~ /^[.)]$/ || token_at[k - 1] ~ /^[.(]$/ || k == a ? "" : " ") token_at[k]
-    gsub(/\./, " .", left)
-    if (bound == "_" && left ~ /^(now |ptr )?r$/) {
-        wrong("speaks of an answer that its λ does not bind")
-        return 0
-    }
+    for (k = a; k < middle; k++) left = left (token_at[k] ~ /^(::|\))$/ || token_at[k - 1] ~ /^(::|\()$/ || k == a ? "" : " ") bare(token_at[k])
+    gsub(/::/, ".", left)
     for (k = middle + 1; k <= b; k++) {
         if (!is_value(k)) {
-            wrong("has " (token_at[k] == "::" ? token_at[k - 1] "." token_at[k + 1] : token_at[k]) " in what " left " equals")
+            wrong("has " (token_at[k] == "::" ? bare(token_at[k - 1]) "." token_at[k + 1] : token_at[k]) " in what " left " equals")
             return 0
         }
     }
@@ -337,23 +337,28 @@ function equality(a, b,    k, deep, middle, left) {
     return 1
 }
 
-# Whether the token may stand in a value: a name, a numeral, what is in_value, and a name of a module where it can be no operator.
+# Whether the token may stand in a value: a name, a numeral, what is in_value, a field of what was given, and a name of a module where it can be no operator.
 # The answer and what is left at the end may not: they would be told by themselves.
-function is_value(k,    token) {
+function is_value(k,    token, before) {
     token = token_at[k]
-    if (token == "r" || token == "exit" || token in reserved) return 0
-    if (token == "::") return token_at[k - 1] in alias && token_at[k - 2] ~ /^(\(|≡)$/
-    return token ~ /^[A-Za-z0-9]+$/ || is_quoted(token) || token in in_value
+    if (token in reserved || token == "exit") return 0
+    if (token == "new" && token_at[k - 1] == "::") return 0
+    if (token == "::") {
+        before = bare(token_at[k - 1])
+        if (before in given || before == ")" || token_at[k - 2] == "::") return 1
+        return before in alias && token_at[k - 2] ~ /^(\(|≡)$/
+    }
+    return token ~ /^[A-Za-z0-9_]+\047?$/ || is_quoted(token) || token in in_value
 }
 
 # each of the answer and what was lent is told once, and nothing else is
 function all_told(answer,    k, left) {
-    if (answer == "value") is_told("r", "what the answer is")
+    if (answer == "value") is_told("result", "what the answer is")
     if (answer == "&") {
-        is_told("now r", "which bytes the answer has")
-        is_told("ptr r", "which part of what was lent the answer is")
+        is_told("result.now", "which bytes the answer has")
+        is_told("result.ref_ptr", "which part of what was lent the answer is")
     }
-    for (k = 1; k <= lents; k++) is_told("now (" (lent[k] ~ /_/ ? "«" lent[k] "»" : lent[k]) " .exit)", "what " lent[k] " then holds")
+    for (k = 1; k <= lents; k++) is_told(lent[k] ".new", "what " lent[k] " then holds")
     for (left in told) wrong("says something of " left ", which is neither its answer nor lent to be written")
 }
 

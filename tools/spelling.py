@@ -18,9 +18,9 @@ TOKEN = re.compile(r"(?<![\w])[A-Za-z]\w*(?:['-]+\w+)*'*")
 DECLARED = re.compile(r"^(?:  )?(?:(?:abbrev|unfoldable|pub|record|data|infix\w* \d+) )*([A-Za-z][^\s:(){}]*) (?=[:(])")
 # definitions of the library that names of lemmas join to others
 LIBRARY = set("length take drop set get_or slice_index replicate map sum reverse list_all div mod digits suc zero leb eqb not cond at".split())
-# own names that are no words of one rule: a definition that gives a list is no type
-BY_HAND = {"Start": "start_of_four"}
-KEPT = set("P S1 S2 S3 S4 F F-word T_true".split())
+# a definition of one crate that is spelled as a type and gives a list
+BY_HAND = {"blocks": {"Start": "start_of_four"}}
+KEPT = set("P S1 S2 S3 S4 F F-word T_true Start".split())
 # what port.py turns in crates/ and not in must-fail edits
 TURNED = {"getD": "get_or"}
 
@@ -65,8 +65,6 @@ def declared(root):
 def new_name(name, joined):
     if name in KEPT:
         return name
-    if name in BY_HAND:
-        return BY_HAND[name]
     parts = [snake(p) for p in name.split("-")]
     out = parts[0]
     for before, after in zip(parts, parts[1:]):
@@ -145,9 +143,10 @@ def turned_antt(text, names):
 
 
 def turned_code(text, names):
-    """A source file: strings and characters stay."""
+    """A source file: strings, characters and the code's own names stay; these are in snake case."""
+    own = frozenset(re.findall(r"\bfn (\w+)", text))
     parts = re.split(r"(b?\"(?:[^\"\\\n]|\\.)*\"|b?'(?:[^'\\\n]|\\.)')", text)
-    return "".join(p if i % 2 else turned(p, names, dashes=False) for i, p in enumerate(parts))
+    return "".join(p if i % 2 else turned(p, names, dashes=False, foreign=own) for i, p in enumerate(parts))
 
 
 def octets(text):
@@ -163,8 +162,10 @@ def main(argv):
         print("look: together:", new, "from", " ".join(sorted(olds)))
     changed = 0
     for path in list(antt_files(root)) + sorted(glob.glob(os.path.join(root, "crates", "*", "src", "**", "*.rt"), recursive=True)):
-        text = read(path)
+        text = was = read(path)
         code = path.endswith(".rt")
+        for old, new in BY_HAND.get(os.path.relpath(path, root).split(os.sep)[1], {}).items():
+            text = re.sub(r"(?<![\w'-])" + old + r"(?![\w'-])", new, text)
         now = octets(turned_code(text, names) if code else turned_antt(text, names))
         before = set(TOKEN.findall(text))
         gained = {names.words.get(t, snake(t)) for t in before if names.words.get(t, snake(t)) != t}
@@ -176,7 +177,7 @@ def main(argv):
                 for p in re.findall(r"(\w+):", m.group(2)):
                     if p in gained:
                         print("look: a parameter hides a word:", os.path.relpath(path, root), m.group(1), p)
-        if now != text:
+        if now != was:
             changed += 1
             if not dry:
                 with open(path, "w", encoding="utf-8") as f:

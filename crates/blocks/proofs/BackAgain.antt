@@ -2,16 +2,16 @@
 -- Assumes nothing.
 use mathlib.Core.Path.{◌≡◌, refl, sym, ap, ap₂, ◌∙◌}
 use mathlib.Core.List.{List, [], ◌++◌, append-nil}
-use Prim.Native.Nat.{ℕ, zero, suc, ◌+◌, ◌*◌, ◌%◌, ◌^◌, ◌≤◌, ◌<◌}
+use Prim.Native.Nat.{ℕ, zero, suc, ◌+◌, ◌*◌, ◌^◌, ◌≤◌, ◌<◌}
 use native.Mathlib.Nat.{mod-eq_of_lt}
 use native.Mathlib.Omega.{arith}
-use lib.ListN.{length, drop, take}
+use lib.ListN.{length, take}
 use lib.Seq.{take-add}
 use Rattle.octets.specs.Numbers.{Below, bytes_of}
 use Rattle.octets.specs.Places.{number_at}
 use Rattle.octets.proofs.Places.{bytes_at, number_at_below, number_written}
 use Rattle.blocks.specs.Blocks.{each_block}
-use Rattle.blocks.proofs.EachBlocks.{each-block-length}
+use Rattle.blocks.proofs.EachBlocks.{each_block-length}
 use Rattle.blocks.proofs.Cuts.{each_before}
 
 -- the number at the end of a list, where the eight bytes of y were put
@@ -33,7 +33,7 @@ module _ (f g : ℕ → ℕ) (blocks : (x : ℕ) → x < 2 ^ 64 → f x < 2 ^ 64
   each_back (suc n) s below h =
       let x = number_at 8 s (8 * n) in
       let small : x < 2 ^ 64 = number_at_below 8 s (8 * n) below in
-      let size = each-block-length f n s in
+      let size = each_block-length f n s in
       let end : 8 * n + 8 ≡ 8 * suc n = omega arith in
       ap₂ (λ (a : List ℕ) (y : ℕ). a ++ bytes_of 8 (g y))
       (each_before g n (each_block f n s) (bytes_of 8 (f x)) (omega (arith, size)) ∙ each_back n s below (omega arith))

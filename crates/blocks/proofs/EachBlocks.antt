@@ -16,10 +16,10 @@ use Rattle.octets.proofs.Every.{either}
 use Rattle.blocks.specs.Blocks.{each_block, blocks_of_both, blocks_put}
 use Rattle.blocks.specs.Fours.{block_put, all_put}
 
-pub each-block-length : (f : ℕ → ℕ) (n : ℕ) (s : List ℕ) → length (each_block f n s) ≡ 8 * n
+pub each_block-length : (f : ℕ → ℕ) (n : ℕ) (s : List ℕ) → length (each_block f n s) ≡ 8 * n
 unfolding each_block
-each-block-length f zero s = refl
-each-block-length f (suc n) s = simp (length-append, digits-length) (omega (arith, each-block-length f n s))
+each_block-length f zero s = refl
+each_block-length f (suc n) s = simp (length-append, digits-length) (omega (arith, each_block-length f n s))
 
 -- so many blocks lie within both
 pub both_room : (s out : List ℕ) → (8 * blocks_of_both s out ≤ length s) × (8 * blocks_of_both s out ≤ length out)
@@ -38,13 +38,13 @@ module _ (f : ℕ → ℕ) (s out : List ℕ) where
   worked_none = refl
 
   pub worked_length : (n : ℕ) → 8 * n ≤ length out → length (worked n) ≡ length out
-  worked_length n h = simp (length-append, length-drop) (omega (arith, each-block-length f n s))
+  worked_length n h = simp (length-append, length-drop) (omega (arith, each_block-length f n s))
 
   -- one more
   pub worked_next : (n : ℕ) → block_put (8 * n) (f (number_at 8 s (8 * n))) (worked n) ≡ worked (suc n)
   unfolding block_put each_block
   worked_next n =
-      let size = each-block-length f n s in
+      let size = each_block-length f n s in
       let one_more : 8 * n + 8 ≡ 8 * suc n = omega arith in
       let rest : drop (8 * n + 8) (worked n) ≡ drop (8 * suc n) out =
       ap (λ (k : ℕ). drop (k + 8) (worked n)) (sym size)
@@ -58,12 +58,12 @@ module _ (f : ℕ → ℕ) (s out : List ℕ) where
 
   -- and up to four more, which are there as numbers
   module _ (n : ℕ) (xs : List ℕ) (four : (k : ℕ) → k < 4 → get_or xs k 0 ≡ f (number_at 8 s (8 * (n + k)))) where
-    pub worked-more : (k : ℕ) → k ≤ 4 → all_put xs (8 * n) k (worked n) ≡ worked (n + k)
+    pub worked_more : (k : ℕ) → k ≤ 4 → all_put xs (8 * n) k (worked n) ≡ worked (n + k)
     unfolding all_put
-    worked-more zero h = ap worked (sym (add-zero n))
-    worked-more (suc k) h =
+    worked_more zero h = ap worked (sym (add-zero n))
+    worked_more (suc k) h =
         let place : 8 * n + 8 * k ≡ 8 * (n + k) = omega arith in
-        ap (block_put (8 * n + 8 * k) (get_or xs k 0)) (worked-more k (omega arith))
+        ap (block_put (8 * n + 8 * k) (get_or xs k 0)) (worked_more k (omega arith))
         ∙ ap (λ (x : ℕ). block_put (8 * n + 8 * k) x (worked (n + k))) (four k (omega arith))
         ∙ ap (λ (at : ℕ). block_put at (f (number_at 8 s (8 * (n + k)))) (worked (n + k))) place
         ∙ worked_next (n + k)
@@ -81,16 +81,16 @@ one_alone f s out {x} {y} {after} alone read made put =
     ∙ ap (worked f s out) (sym alone)
 
 -- the length of a slice stays
-pub block-put-length : (at x : ℕ) (out : List ℕ) → at + 8 ≤ length out → length (block_put at x out) ≡ length out
+pub block_put-length : (at x : ℕ) (out : List ℕ) → at + 8 ≤ length out → length (block_put at x out) ≡ length out
 unfolding block_put
-block-put-length at x out h = simp (length-append, digits-length, length-drop) (omega (arith, length-take-le at out (omega arith)))
+block_put-length at x out h = simp (length-append, digits-length, length-drop) (omega (arith, length-take-le at out (omega arith)))
 
 pub all_put-length : (xs : List ℕ) (at n : ℕ) (out : List ℕ) → at + 8 * n ≤ length out → length (all_put xs at n out) ≡ length out
 unfolding all_put
 all_put-length xs at zero out h = refl
 all_put-length xs at (suc n) out h =
     let before = all_put-length xs at n out (omega arith) in
-    block-put-length (at + 8 * n) (get_or xs n 0) (all_put xs at n out) (omega arith) ∙ before
+    block_put-length (at + 8 * n) (get_or xs n 0) (all_put xs at n out) (omega arith) ∙ before
 
 -- eight stores in a row
 pub eight_stores : (out : List ℕ) (at a b c d e f g h : ℕ) → at + 8 ≤ length out

@@ -1,7 +1,6 @@
 -- Blocks put at an output's start, and after what was put there before.
 -- Assumes nothing.
-use mathlib.Core.Path.{◌≡◌, refl, sym, ap, ap₂, ◌∙◌}
-use mathlib.Core.Bool.{Bool, true, false, cond}
+use mathlib.Core.Path.{◌≡◌, sym, ap, ap₂, ◌∙◌}
 use mathlib.Core.List.{List, ◌++◌, append_assoc, append-nil}
 use Prim.Native.Nat.{ℕ, ◌+◌, ◌-◌, ◌*◌, ◌/◌, ◌≤◌}
 use native.Mathlib.Omega.{arith}
@@ -11,7 +10,7 @@ use lib.ListN.{length, take, drop, length-append, length-drop}
 use lib.Seq.{take_all, take_at, drop_at, drop-length, drop-drop}
 use Rattle.octets.proofs.Every.{either}
 use Rattle.blocks.specs.Blocks.{each_block, blocks_of_both, blocks_put}
-use Rattle.blocks.proofs.EachBlocks.{each-block-length}
+use Rattle.blocks.proofs.EachBlocks.{each_block-length}
 
 -- where there is room for all whole blocks of s, all are put
 pub all_of_both : (s out : List ℕ) → 8 * (length s / 8) ≤ length out → blocks_of_both s out ≡ length s / 8
@@ -33,7 +32,7 @@ module _ (f : ℕ → ℕ) (s : List ℕ) where
   unfolding blocks_put
   put_start out room =
       ap (λ (n : ℕ). each_block f n s ++ drop (8 * n) out) (all_of_both s out room)
-      ∙ ap (λ (n : ℕ). wholes ++ drop n out) (sym (each-block-length f (length s / 8) s))
+      ∙ ap (λ (n : ℕ). wholes ++ drop n out) (sym (each_block-length f (length s / 8) s))
 
   -- blocks put into the part after a, where a stands at the start: they stand after a
   pub put_next : (a out o : List ℕ) (at : ℕ) → length a ≡ at → o ≡ start_of_four a out → at + 8 * (length s / 8) ≤ length out

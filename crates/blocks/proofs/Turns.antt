@@ -13,7 +13,7 @@ use Rattle.blowfish.specs.Cipher.{F, P, cipher, block_number}
 use Rattle.blowfish.specs.declared.Block.{Block}
 use Rattle.blocks.specs.declared.Four.{Four}
 use Rattle.blocks.specs.Fours.{listed, first_four, cipher_by, all_put}
-use Rattle.blocks.proofs.EachBlocks.{worked, worked_length, worked-more}
+use Rattle.blocks.proofs.EachBlocks.{worked, worked_length, worked_more}
 
 -- four blocks worked, as numbers
 abbrev numbers : List ℕ → List ℕ → Four → List ℕ
@@ -51,5 +51,5 @@ one_turn w p s out i k {before} {after} {xs} {b} few within room so_far read mad
     put
     ∙ ap (λ (l : List ℕ). all_put l (8 * i) k before) (made ∙ ap (numbers w p) here)
     ∙ ap (all_put (numbers w p (first_four (drop (8 * i) s))) (8 * i) k) so_far
-    ∙ worked-more (cipher_by w p) s out i (numbers w p (first_four (drop (8 * i) s))) (four_numbers w p s i within) k few in
+    ∙ worked_more (cipher_by w p) s out i (numbers w p (first_four (drop (8 * i) s))) (four_numbers w p s i within) k few in
     (ap length all ∙ worked_length (cipher_by w p) s out (i + k) room, all)

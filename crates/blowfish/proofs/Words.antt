@@ -19,19 +19,19 @@ F-word : (w : List ℕ) (x : ℕ) → Word (F w x)
 unfolding F
 F-word w x = mod-lt _ (lit< tt)
 
-module _ (f p : ℕ → ℕ) (words-f : (x : ℕ) → Word (f x)) (words-p : (i : ℕ) → Word (p i)) where
+module _ (f p : ℕ → ℕ) (words_f : (x : ℕ) → Word (f x)) (words_p : (i : ℕ) → Word (p i)) where
   rounds_words : (n : ℕ) (b : Block) → Word b.left → Word b.right → Word (rounds f p n b).left × Word (rounds f p n b).right
   unfolding rounds
   rounds_words zero b l r = (l, r)
   rounds_words (suc n) b l r =
       let before = rounds_words n b l r in
-      (xor_lt 32 _ _ before.1 (words-f _), xor_lt 32 _ _ before.0 (words-p n))
+      (xor_lt 32 _ _ before.1 (words_f _), xor_lt 32 _ _ before.0 (words_p n))
 
   cipher_words : (b : Block) → Word b.left → Word b.right → Word (cipher f p b).left × Word (cipher f p b).right
   unfolding cipher
   cipher_words b l r =
       let rounded = rounds_words 16 b l r in
-      (xor_lt 32 _ _ rounded.1 (words-p 17), xor_lt 32 _ _ rounded.0 (words-p 16))
+      (xor_lt 32 _ _ rounded.1 (words_p 17), xor_lt 32 _ _ rounded.0 (words_p 16))
 
 -- a block's number is taken apart again
 parts : (b : Block) → Word b.right → block_of (block_number b) ≡ b

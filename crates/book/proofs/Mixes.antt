@@ -54,7 +54,7 @@ mixing s some others undamaged same =
 
 pub own_answers_lem : OwnAnswers
 unfolding own_of
-own_answers_lem s made t undamaged quiet = answers_say t made s undamaged ∙ lists.own_answers t made (book_of s) (good s undamaged) quiet
+own_answers_lem s made t undamaged quiet = answers_say t made s undamaged ∙ lists.own_answers_lem t made (book_of s) (good s undamaged) quiet
 
 -- of any tenant: what it is answered goes by the calls that it hears
 heard_answers : (s : List ℕ) (made : List Made) (t : ℕ) → is_book s ≡ true

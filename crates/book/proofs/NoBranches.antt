@@ -28,23 +28,23 @@ module _ (s : List ℕ) (none : NoBranches s) (t : ℕ) where
 pub old_promises : OldPromises
 old_promises s undamaged none = record {
   mixing = λ some others. mixing s some others undamaged;
-  own_answers_lem = λ made t. own_answers_lem s made t undamaged (λ branch. absurd (no_branch_lem s none t branch));
-  nothing_else_lem = λ s' t call undamaged' same. nothing_else_lem s s' t call undamaged undamaged' (record {
+  own_answers = λ made t. own_answers_lem s made t undamaged (λ branch. absurd (no_branch_lem s none t branch));
+  nothing_else = λ s' t call undamaged' same. nothing_else_lem s s' t call undamaged undamaged' (record {
     cells = ap (λ (o : Own). o.cells) same;
     quota = ap (λ (o : Own). o.setting.quota) same;
     days = ap (λ (o : Own). o.setting.days) same;
     server = ap (λ (o : Own). o.setting.server) same;
     branch = ap (λ (o : Own). names_none o.setting) same;
   });
-  others_untouched_lem = λ t u call apart. others_untouched_lem s t u call undamaged apart (λ e. apart (sym (reads_own s none u) ∙ e));
-  enter_done_lem = λ t cell done.
+  others_untouched = λ t u call apart. others_untouched_lem s t u call undamaged apart (λ e. apart (sym (reads_own s none u) ∙ e));
+  enter_done = λ t cell done.
       let it = enter_done_lem s t cell done in
       (it.gives t it.own, (it.others t it.own, it.setting t it.own));
-  withdraw_done_lem = λ t name done.
+  withdraw_done = λ t name done.
       let it = withdraw_done_lem s t name done in
       (it.gives t it.own, (it.others t it.own, it.setting t it.own));
-  quota_decides_lem = λ t cell tenant held. quota_decides_lem s t cell undamaged tenant held (none t);
-  held_replaced_lem = λ t cell old tenant held. held_replaced_lem s t cell old undamaged tenant held (none t);
-  as_every_record_lem = λ t producer tenant right.
+  quota_decides = λ t cell tenant held. quota_decides_lem s t cell undamaged tenant held (none t);
+  held_replaced = λ t cell old tenant held. held_replaced_lem s t cell old undamaged tenant held (none t);
+  as_every_record = λ t producer tenant right.
       as_every_record_lem s t producer undamaged tenant right ∙ ap (λ (l : ℕ). Any (any_record l producer (book_of s).records)) (reads_own s none t);
 }

@@ -27,7 +27,7 @@ use Rattle.layout.proofs.Frame.{Frame, frame_written, frame_by, book_frame}
 use Rattle.carrying.specs.Carrying.{carried, carried_over, CarriesOver}
 use Rattle.carrying.specs.OldForm.{old_form, wider}
 use Rattle.carrying.proofs.OldForms.{form_facts, formed_test, formed_frame, frame_formed}
-use Rattle.carrying.proofs.Wider.{old_last, wider-is, zeros_old}
+use Rattle.carrying.proofs.Wider.{old_last, wider_is, zeros_old}
 
 module _ (s : List ℕ) where
   lasts_from : (i n : ℕ) → no_lasts (each_from (record_at_by one s) i n) ≡ true
@@ -77,9 +77,9 @@ module _ (s : List ℕ) (below : Below 256 s) where
 
   module _ (form : old_form s ≡ true) where
     -- its numbers fit version 2
-    old-fits : BookFits two (book_of_by one s)
+    old_fits : BookFits two (book_of_by one s)
     unfolding book_of_by
-    old-fits =
+    old_fits =
         let n = record_count_by one s in
         record {
           sixteen = each_count (setting_at s) 0 16;
@@ -89,24 +89,24 @@ module _ (s : List ℕ) (below : Below 256 s) where
         }
 
     -- so the book that is written says what it says
-    old-back : book_of (carried s) ≡ book_of_by one s
-    old-back = book-back two (book_of_by one s) old-fits
+    old_back : book_of (carried s) ≡ book_of_by one s
+    old_back = book-back two (book_of_by one s) old_fits
 
     -- where that is good, and three zeros end each record, it is undamaged
-    old-good : Frame one s → is_good (book_of_by one s) ≡ true → is_book_by one s ≡ true
+    old_good : Frame one s → is_good (book_of_by one s) ≡ true → is_book_by one s ≡ true
     unfolding is_book_by
-    old-good frame good =
+    old_good frame good =
         rw (eq-eqb (length s) (book_size_by one) frame.size, ap (same_text s) (frame_written one s below frame) ∙ same_refl s) good
 
-    pub old-judged : is_book (wider s) ≡ is_book_by one s
-    old-judged =
+    pub old_judged : is_book (wider s) ≡ is_book_by one s
+    old_judged =
         same_tests (is_book (wider s)) (is_book_by one s)
         (λ undamaged.
         let frame : Frame one s = formed_frame s (form_facts s form) (zeros_old s below (form_facts s form) (book_frame (wider s) undamaged)) in
-        let new : is_book (carried s) ≡ true = sym (ap is_book (wider-is s below (form_facts s form) frame)) ∙ undamaged in
-        old-good frame (sym (ap is_good old-back) ∙ (undamaged_says (carried s) new).0))
+        let new : is_book (carried s) ≡ true = sym (ap is_book (wider_is s below (form_facts s form) frame)) ∙ undamaged in
+        old_good frame (sym (ap is_good old_back) ∙ (undamaged_says (carried s) new).0))
         (λ undamaged.
-        ap is_book (wider-is s below (form_facts s form) (old_frame s undamaged))
+        ap is_book (wider_is s below (form_facts s form) (old_frame s undamaged))
         ∙ (good_reads_back (book_of_by one s) (says_by one s undamaged).0).0)
 
 pub carries_over : CarriesOver

@@ -30,15 +30,15 @@ module _ (s : List ℕ) (below : Below 256 s) (formed : Formed s) where
   records_none size = record { put = put_none record_size wider_bytes record_place (old_record s) n (omega (arith, formed.few)) }
 
   module _ {s₀ new : List ℕ} {i : ℕ} (so_far : RecordsPut s s₀ new i) where
-    pub records-next : i < n → (new₁ : List ℕ)
+    pub records_next : i < n → (new₁ : List ℕ)
         → new₁ ≡ placed (record_place i) (part (record_size_by one) s (record_place_by one i) ++ zeros 4) new → RecordsPut s s₀ new₁ (i + 1)
-    records-next more new₁ written =
+    records_next more new₁ written =
         let here : new₁ ≡ placed (record_place i) (wider_bytes (old_record s i)) new =
         written ∙ ap (λ (l : List ℕ). placed (record_place i) l new) (wider_record s below formed i more) in
         record { put = put_next record_size wider_bytes record_place (old_record s) n wider_size (place_next two) so_far.put more new₁ here }
 
-    pub records-all : n ≤ i → new ≡ placed records_place (wider_records s) s₀
-    records-all done = put_all record_size wider_bytes record_place (old_record s) n wider_size (place_next two) so_far.put done
+    pub records_all : n ≤ i → new ≡ placed records_place (wider_records s) s₀
+    records_all done = put_all record_size wider_bytes record_place (old_record s) n wider_size (place_next two) so_far.put done
 
   abbrev used : List ℕ
   used = bytes_of 4 (used_length n)
@@ -58,9 +58,9 @@ module _ (s : List ℕ) (below : Below 256 s) (formed : Formed s) where
       (omega (arith, settings_are, bytes-size record_size wider_bytes wider_size (each_from (old_record s) 0 n), each_count (old_record s) 0 n))
 
   -- the version, the used length, the settings and the records on zeros
-  pub wider-put : (s₀ s₁ s₂ s₃ s₄ : List ℕ) → s₀ ≡ zeros book_size → s₁ ≡ placed 0 (2 ∷ []) s₀ → s₂ ≡ placed 1 used s₁
+  pub wider_put : (s₀ s₁ s₂ s₃ s₄ : List ℕ) → s₀ ≡ zeros book_size → s₁ ≡ placed 0 (2 ∷ []) s₀ → s₂ ≡ placed 1 used s₁
       → s₃ ≡ placed settings_place settings s₂ → s₄ ≡ placed records_place (wider_records s) s₃ → s₄ ≡ wider s
-  wider-put s₀ s₁ s₂ s₃ s₄ e₀ e₁ e₂ e₃ e₄ =
+  wider_put s₀ s₁ s₂ s₃ s₄ e₀ e₁ e₂ e₃ e₄ =
       let size : length s₀ ≡ book_size = ap length e₀ ∙ length-replicate {A = ℕ} book_size 0 in
       let four : length used ≡ 4 = digits-length 256 4 (used_length n) in
       let two_put : s₂ ≡ placed 0 ((2 ∷ []) ++ used) s₀ = e₂ ∙ ap (placed 1 used) e₁ ∙ placed-next 0 1 (2 ∷ []) used s₀ refl (omega arith) in

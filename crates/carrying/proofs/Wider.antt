@@ -110,9 +110,9 @@ module _ (s : List ℕ) (below : Below 256 s) (formed : Formed s) where
 
   -- three zeros end each record
   module _ (frame : Frame one s) where
-    records-are : wider_records s ≡ all_bytes record_bytes (book_of_by one s).records
+    records_are : wider_records s ≡ all_bytes record_bytes (book_of_by one s).records
     unfolding book_of_by
-    records-are =
+    records_are =
         same_bytes wider_bytes record_bytes (old_record s) (record_at_by one s) 0 n
         (λ i low high.
         let more : i < n = omega arith in
@@ -124,11 +124,11 @@ module _ (s : List ℕ) (below : Below 256 s) (formed : Formed s) where
     unfolding book_of_by
     count_is = each_count (record_at_by one s) 0 n
 
-    pub wider-is : wider s ≡ carried s
+    pub wider_is : wider s ≡ carried s
     unfolding book_bytes_by
-    wider-is =
+    wider_is =
         sym (rw count_is
-        (ap₂ (λ (l k : List ℕ). 2 ∷ (bytes_of 4 (used_length n) ++ (l ++ (k ++ past)))) settings_are (sym records-are) ∙ simp append_assoc))
+        (ap₂ (λ (l k : List ℕ). 2 ∷ (bytes_of 4 (used_length n) ++ (l ++ (k ++ past)))) settings_are (sym records_are) ∙ simp append_assoc))
       where
         settings_are : all_bytes setting_bytes (book_of_by one s).settings ≡ part 96 s settings_place
         settings_are = unfold book_of_by in all_settings one s below frame

@@ -8,11 +8,11 @@ ghost use Rattle.layout.specs.Layout.{one, record_size_by, records_place, record
 ghost use Rattle.carrying.specs.Carrying.{carried_over};
 ghost use Rattle.carrying.specs.OldForm.{old_form, wider_records, wider};
 
-use octets::numbers::number32;
 use layout::{
     BOOK_SIZE, MOST_RECORDS, OLD_BOOK_SIZE, OLD_RECORD_SIZE, RECORD_SIZE, RECORDS_PLACE,
     SETTINGS_PLACE, old_count,
 };
+use octets::numbers::number32;
 use text::writing::put_text;
 
 // Whether the bytes have the form of a version 1 book: length, version, used length, and zeros past it.

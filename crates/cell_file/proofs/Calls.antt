@@ -1,12 +1,12 @@
 -- What the calls on whole files and on the end answer and write, return by return.
 -- Assumes nothing.
-use mathlib.Core.Path.{◌≡◌, refl, sym, ap, ap₂, ◌∙◌}
+use mathlib.Core.Path.{◌≡◌, sym, ap, ap₂, ◌∙◌}
 use mathlib.Core.Bool.{true, false}
 use mathlib.Core.List.{List, ◌++◌}
 use Prim.Native.Nat.{ℕ, ◌+◌, ◌-◌, ◌*◌, ◌/◌, ◌%◌, ◌^◌, ◌≤◌, ◌<◌}
 use native.Mathlib.Omega.{arith}
 use borrow.Author.Tests.{lt-ltb, le-ltb, le-leb, lt-leb, leb-true, ltb-true}
-use lib.Dec.{leb, ltb}
+use lib.Dec.{leb}
 use native.Mathlib.Nat.{one-le-pow}
 use lib.ListN.{length, take, drop, length-append, length-drop}
 use lib.Seq.{take_all}
@@ -20,11 +20,11 @@ use Rattle.blowfish.specs.Cipher.{encipher_of}
 use Rattle.blocks.specs.Blocks.{blocks_put}
 use Rattle.blocks.proofs.Puts.{put_start}
 use Rattle.forms.specs.Identifiers.{is_cell_key}
-use Rattle.forms.specs.Output.{Output, text, refusal, Answered}
+use Rattle.forms.specs.Output.{text, refusal, Answered}
 use Rattle.forms.proofs.Outputs.{wrote}
 use Rattle.forms.specs.declared.Written.TheVariants as written
 use Rattle.cell_file.specs.Enciphering.{most, cell_words, enciphered, padded_file, file_written, is_carried, carried_on, end_written}
-use Rattle.cell_file.proofs.WholeBlocks.{carried-length, enciphered-length, file_length}
+use Rattle.cell_file.proofs.WholeBlocks.{carried-length, enciphered-length}
 use Rattle.cell_file.proofs.CutAnywhere.{file_done}
 use Rattle.cell_file.proofs.Pieces.{file_pieces, rest_enciphered, last_enciphered}
 
@@ -61,9 +61,9 @@ module _ (key x n room : ℕ) where
   unfolding end_written
   end_no_key h = rw (no_key key h)
 
-  pub end_not-carried : key ≤ largest → is_carried n x ≡ false → end_written key x n room ≡ refusal 103
+  pub end_not_carried : key ≤ largest → is_carried n x ≡ false → end_written key x n room ≡ refusal 103
   unfolding end_written
-  end_not-carried k h = rw (is_key_lem key k, h)
+  end_not_carried k h = rw (is_key_lem key k, h)
 
   pub end_no_room : key ≤ largest → is_carried n x ≡ true → room < 8 → end_written key x n room ≡ refusal 108
   unfolding end_written
@@ -122,12 +122,12 @@ file_wrote key x file words before middle after below k fits room w m e is =
     let left : length c ≡ length file - whole = length-drop whole file in
     let a = enciphered key file in
     let b = enciphered key (padded_file c) in
-    let size-a : length a ≡ whole = enciphered-length key file in
+    let size_a : length a ≡ whole = enciphered-length key file in
     let block : bytes_of 8 (encipher_of words (pad_of (length file - whole) x)) ≡ b =
     ap₂ (λ (l : List ℕ) (y : ℕ). bytes_of 8 (encipher_of l (pad_of (length file - whole) y))) w e
     ∙ ap (λ (n : ℕ). bytes_of 8 (encipher_of (cell_words key) (pad_of n (bytes_number c)))) (sym left)
     ∙ sym (rest_enciphered key c (drop_below whole file below) (omega (arith, left))) in
-    let size-b : length b ≡ 8 = ap length (sym block) ∙ digits-length 256 8 (encipher_of words (pad_of (length file - whole) x)) in
+    let size_b : length b ≡ 8 = ap length (sym block) ∙ digits-length 256 8 (encipher_of words (pad_of (length file - whole) x)) in
     let start : middle ≡ placed 0 a before =
     m ∙ ap (λ (l : List ℕ). blocks_put (encipher_of l) file before) w ∙ put_start (encipher_of (cell_words key)) file before (omega arith)
     ∙ sym (placed_start a before (omega arith)) in

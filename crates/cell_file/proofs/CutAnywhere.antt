@@ -1,37 +1,21 @@
 -- Parts and end together write what the whole call writes.
 -- Assumes nothing.
 use mathlib.Core.Path.{◌≡◌, refl, sym, ap, ap₂, subst, ◌∙◌}
-use mathlib.Core.Bool.{Bool, true, ◌&&◌}
+use mathlib.Core.Bool.{true, ◌&&◌}
 use mathlib.Core.List.{List, [], ◌∷◌, ◌++◌, append_assoc, append-nil}
-use Prim.Native.Nat.{ℕ, zero, suc, ◌+◌, ◌-◌, ◌*◌, ◌/◌, ◌%◌, ◌^◌, ◌≤◌, ◌<◌}
+use Prim.Native.Nat.{ℕ, ◌+◌, ◌*◌, ◌/◌, ◌≤◌}
 use native.Mathlib.Omega.{arith}
 use borrow.Author.Tests.{le-leb, lt-ltb}
-use lib.Dec.{leb, ltb}
-use lib.ListN.{length, drop, replicate, length-append, length-replicate}
+use lib.Dec.{leb}
+use lib.ListN.{length}
 use lib.Seq.{drop-append-le, take_at}
 use Rattle.octets.specs.Numbers.{Below, digits, bytes_of, bytes_number}
-use Rattle.octets.proofs.Digits.{digits-length, digits_value, value_below, take_below, drop_below}
-use Rattle.octets.proofs.Every.{and_first, and_second}
-use Rattle.blowfish.specs.Cipher.{encipher_of}
+use Rattle.octets.proofs.Digits.{digits_value, value_below, take_below, drop_below}
+use Rattle.octets.proofs.Every.{and_first}
 use Rattle.forms.specs.Identifiers.{is_cell_key}
-use Rattle.forms.specs.Order.{demand}
 use Rattle.forms.specs.Output.{Output, text, refusal}
 use Rattle.forms.proofs.Demands.{passed}
-use Rattle.cell_file.specs.Enciphering.{
-  most,
-  cell_words,
-  enciphered,
-  added,
-  padded_file,
-  file_written,
-  is_carried,
-  PartOutput,
-  blocks,
-  refused,
-  carried_on,
-  part_written,
-  end_written,
-}
+use Rattle.cell_file.specs.Enciphering.{most, enciphered, padded_file, file_written, is_carried, PartOutput, blocks, refused, carried_on, part_written, end_written}
 use Rattle.cell_file.specs.CutAnywhere.{joined, EachFits, InParts, end, part, CutAnywhere, PartsDone}
 use Rattle.cell_file.proofs.WholeBlocks.{carried-length, file_length, padded_cut}
 

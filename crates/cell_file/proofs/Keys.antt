@@ -1,10 +1,9 @@
 -- The words of a cell key. Assumes nothing.
-use mathlib.Core.Path.{◌≡◌, refl, ap, ◌∙◌}
-use mathlib.Core.Bool.{true}
+use mathlib.Core.Path.{◌≡◌, ap, ◌∙◌}
 use mathlib.Core.List.{List}
 use Prim.Native.Nat.{ℕ}
 use Rattle.octets.specs.Numbers.{digits, bytes_of}
-use Rattle.blowfish.specs.Schedule.{is_key, schedule, scheduled}
+use Rattle.blowfish.specs.Schedule.{is_key, scheduled}
 use Rattle.cell_file.specs.Enciphering.{cell_words}
 
 -- the five bytes of a number are a key of the cipher

@@ -3,12 +3,11 @@
 use mathlib.Core.Path.{◌≡◌, refl, sym, ap, ap₂, ◌∙◌}
 use mathlib.Core.Bool.{true, false}
 use mathlib.Core.List.{List, [], ◌++◌, append_assoc}
-use Prim.Native.Nat.{ℕ, ◌+◌, ◌-◌, ◌*◌, ◌/◌, ◌%◌, ◌^◌, ◌≤◌, ◌<◌}
+use Prim.Native.Nat.{ℕ, ◌+◌, ◌-◌, ◌*◌, ◌/◌, ◌^◌, ◌≤◌, ◌<◌}
 use native.Mathlib.Nat.{one-le-pow, pow-le-pow_right, lt_of_lt_of_le}
 use native.Mathlib.Omega.{arith}
 use borrow.Author.Tests.{le-leb, lt-leb}
 use lib.Arith.{digits_lt}
-use lib.Dec.{leb}
 use lib.Pow.{pow-add}
 use lib.ListN.{length, take, drop, take-append-drop, length-append, length-drop}
 use lib.Seq.{take_all, length-take-le, drop-append-add}
@@ -19,7 +18,7 @@ use Rattle.text.specs.Texts.{placed}
 use Rattle.text.proofs.PlacedTexts.{placed_start}
 use Rattle.blowfish.specs.Cipher.{encipher_of}
 use Rattle.blocks.specs.Blocks.{each_block, blocks_put}
-use Rattle.blocks.proofs.EachBlocks.{each-block-length}
+use Rattle.blocks.proofs.EachBlocks.{each_block-length}
 use Rattle.blocks.proofs.BackAgain.{one_block}
 use Rattle.blocks.proofs.Puts.{put_next}
 use Rattle.cell_file.specs.Enciphering.{most, cell_words, enciphered, is_carried, PartOutput, blocks, refused, carried_on, part_written}
@@ -80,15 +79,15 @@ module _ (n x : ℕ) (part : List ℕ) (few : n ≤ 7) (fits : x < 256 ^ n) (eno
         ∙ ap (λ (l : List ℕ). l ++ each_block f (length tail / 8) tail) (one_block f y y-fits)
 
     -- the first block is put at the start, and the others after it
-    pub part-put : (words out o block ys : List ℕ) → 8 * ((n + length part) / 8) ≤ length out
+    pub part_put : (words out o block ys : List ℕ) → 8 * ((n + length part) / 8) ≤ length out
         → block ≡ bytes_of 8 (encipher_of words y) → o ≡ placed 0 block out → ys ≡ blocks_put (encipher_of words) tail (take (length o - 8) (drop 8 o))
         → take 8 o ++ (ys ++ drop (length o - 8) (drop 8 o))
         ≡ placed 0 (each_block (encipher_of words) ((n + length part) / 8) (bytes_of n x ++ part)) out
-    part-put words out o block ys room b e put =
+    part_put words out o block ys room b e put =
         let f = encipher_of words in
         let t = each_block f ((n + length part) / 8) (bytes_of n x ++ part) in
         let eight : length block ≡ 8 = ap length b ∙ digits-length 256 8 (f y) in
-        let size : length t ≡ 8 * ((n + length part) / 8) = each-block-length f ((n + length part) / 8) (bytes_of n x ++ part) in
+        let size : length t ≡ 8 * ((n + length part) / 8) = each_block-length f ((n + length part) / 8) (bytes_of n x ++ part) in
         let rest : length tail ≡ length part - (8 - n) = ap length tail_is ∙ length-drop (8 - n) part in
         let pieces : block ++ each_block f (length tail / 8) tail ≡ t = ap (λ (l : List ℕ). l ++ each_block f (length tail / 8) tail) b ∙ sym (both-pieces f) in
         ap (λ (l : List ℕ). take 8 o ++ (l ++ drop (length o - 8) (drop 8 o))) put
@@ -105,9 +104,9 @@ module _ (key x n : ℕ) (part : List ℕ) (room : ℕ) where
   unfolding part_written
   part_too_long k h = rw (is_key_lem key k, lt-leb (length part) most h)
 
-  pub part-not-carried : key ≤ largest → length part ≤ most → is_carried n x ≡ false → part_written key x n part room ≡ refused 103
+  pub part_not_carried : key ≤ largest → length part ≤ most → is_carried n x ≡ false → part_written key x n part room ≡ refused 103
   unfolding part_written
-  part-not-carried k h e = rw (is_key_lem key k, le-leb (length part) most h, e)
+  part_not_carried k h e = rw (is_key_lem key k, le-leb (length part) most h, e)
 
   pub part_no_room : key ≤ largest → length part ≤ most → is_carried n x ≡ true → room < 8 * ((n + length part) / 8) → part_written key x n part room ≡ refused 108
   unfolding part_written
@@ -120,10 +119,10 @@ PartAnswered o before answer after = AnswerAndLent (part_answer o) (part_lent o 
 pub part_refused : (o : PartOutput) (n : ℕ) (before : List ℕ) → o ≡ refused n → PartAnswered o before (Refused n) before
 part_refused o n before e = (sym (ap part_answer e), sym (ap (λ (p : PartOutput). part_lent p before) e))
 
-part-answered : (o : PartOutput) (t c before after : List ℕ) (size x n : ℕ) → o ≡ blocks t c → size ≡ length t → x ≡ bytes_number c → n ≡ length c → after ≡ t ++ drop (length t) before
+part_answered : (o : PartOutput) (t c before after : List ℕ) (size x n : ℕ) → o ≡ blocks t c → size ≡ length t → x ≡ bytes_number c → n ≡ length c → after ≡ t ++ drop (length t) before
     → PartAnswered o before (Done (record { length = size; carried = x; count = n })) after
-part-answered o t c before after size x n e size_is x-is n-is is =
-    (rw (size_is, x-is, n-is) (sym (ap part_answer e)), is ∙ sym (ap (λ (p : PartOutput). part_lent p before) e))
+part_answered o t c before after size x n e size_is x_is n_is is =
+    (rw (size_is, x_is, n_is) (sym (ap part_answer e)), is ∙ sym (ap (λ (p : PartOutput). part_lent p before) e))
 
 module _ (n x : ℕ) (part : List ℕ) (few : n ≤ 7) (fits : x < 256 ^ n) where
   -- the carried bytes and the part
@@ -138,19 +137,19 @@ module _ (n x : ℕ) (part : List ℕ) (few : n ≤ 7) (fits : x < 256 ^ n) wher
 
   -- they make no block
   module _ (none : n + length part < 8) where
-    pub few-fit : (length part ≤ 8) × (x < 256 ^ (8 - length part))
-    few-fit =
+    pub few_fit : (length part ≤ 8) × (x < 256 ^ (8 - length part))
+    few_fit =
         let places : n ≤ 8 - length part = omega arith in
         (omega arith, lt_of_lt_of_le fits (pow-le-pow_right {n = 256} (omega arith) places))
 
-    pub part-kept : (key y : ℕ) (before : List ℕ) → key ≤ largest → length part ≤ most → is_carried n x ≡ true → y ≡ x * 256 ^ length part + bytes_number part
+    pub part_kept : (key y : ℕ) (before : List ℕ) → key ≤ largest → length part ≤ most → is_carried n x ≡ true → y ≡ x * 256 ^ length part + bytes_number part
         → PartAnswered (part_written key x n part (length before)) before (Done (record { length = 0; carried = y; count = n + length part })) before
     unfolding enciphered each_block
-    part-kept key y before k h carried gathered =
+    part_kept key y before k h carried gathered =
         let whole : length both / 8 ≡ 0 = omega (arith, both_length) in
         let nothing : enciphered key both ≡ [] = ap (λ (m : ℕ). each_block (encipher_of (cell_words key)) m both) whole in
         let all : carried_on both ≡ both = ap (λ (m : ℕ). drop (8 * m) both) whole in
-        part-answered (part_written key x n part (length before)) [] both before before 0 y (n + length part)
+        part_answered (part_written key x n part (length before)) [] both before before 0 y (n + length part)
         (part_done_lem key x n part (length before) (is_key_lem key k) carried h (omega arith) ∙ ap₂ blocks nothing all)
         refl (gathered ∙ sym both_number) (sym both_length) refl
 
@@ -171,23 +170,23 @@ module _ (n x : ℕ) (part : List ℕ) (few : n ≤ 7) (fits : x < 256 ^ n) wher
     left_length : length left ≡ length part - (8 * ((n + length part) / 8) - n)
     left_length = ap length left_is ∙ length-drop (8 * (length both / 8)) both ∙ omega (arith, both_length)
 
-    pub left-fits : (length left ≤ 8) × (0 < 256 ^ (8 - length left))
-    left-fits = (omega (arith, left_length), one-le-pow (8 - length left) 256 (omega arith))
+    pub left_fits : (length left ≤ 8) × (0 < 256 ^ (8 - length left))
+    left_fits = (omega (arith, left_length), one-le-pow (8 - length left) 256 (omega arith))
 
-    pub part-wrote : (key y : ℕ) (words before after : List ℕ) → key ≤ largest → length part ≤ most → is_carried n x ≡ true
+    pub part_wrote : (key y : ℕ) (words before after : List ℕ) → key ≤ largest → length part ≤ most → is_carried n x ≡ true
         → 8 * ((n + length part) / 8) ≤ length before → words ≡ cell_words key
         → after ≡ placed 0 (each_block (encipher_of words) ((n + length part) / 8) both) before
         → y ≡ 0 * 256 ^ length left + bytes_number left
         → PartAnswered (part_written key x n part (length before)) before
         (Done (record { length = 8 * ((n + length part) / 8); carried = y; count = length part - (8 * ((n + length part) / 8) - n) })) after
     unfolding enciphered
-    part-wrote key y words before after k h carried room w is gathered =
+    part_wrote key y words before after k h carried room w is gathered =
         let t = enciphered key both in
         let size : length t ≡ 8 * ((n + length part) / 8) = enciphered-length key both ∙ omega (arith, both_length) in
         let written : after ≡ placed 0 t before =
         is
         ∙ ap₂ (λ (l : List ℕ) (m : ℕ). placed 0 (each_block (encipher_of l) (m / 8) both) before) w (sym both_length) in
         let rest : y ≡ bytes_number (carried_on both) = gathered ∙ omega arith ∙ ap bytes_number left_is in
-        part-answered (part_written key x n part (length before)) t (carried_on both) before after _ y _
+        part_answered (part_written key x n part (length before)) t (carried_on both) before after _ y _
         (part_done_lem key x n part (length before) (is_key_lem key k) carried h room)
         (sym size) rest (sym left_length ∙ ap length left_is) (written ∙ placed_start t before (omega arith))

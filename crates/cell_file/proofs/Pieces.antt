@@ -1,11 +1,11 @@
 -- The pieces that the calls write: the whole blocks of a file, a first block with the carried bytes in it, and the last block.
 -- Assumes nothing.
-use mathlib.Core.Path.{◌≡◌, refl, sym, ap, ap₂, ◌∙◌}
-use mathlib.Core.List.{List, [], ◌++◌, append_assoc, append-nil}
+use mathlib.Core.Path.{◌≡◌, sym, ap, ap₂, ◌∙◌}
+use mathlib.Core.List.{List, [], ◌++◌, append-nil}
 use Prim.Native.Nat.{ℕ, ◌+◌, ◌-◌, ◌*◌, ◌/◌, ◌%◌, ◌^◌, ◌≤◌, ◌<◌}
 use native.Mathlib.Omega.{arith}
-use lib.ListN.{length, take, drop, replicate, take-append-drop, length-append, length-drop, length-replicate}
-use lib.Seq.{drop-length, drop-drop, length-take-le}
+use lib.ListN.{length, drop, replicate, length-append, length-replicate}
+use lib.Seq.{drop-length}
 use Rattle.octets.specs.Numbers.{Below, bytes_of, bytes_number}
 use Rattle.octets.specs.Padding.{padded, pad_of}
 use Rattle.octets.proofs.Digits.{append_below, digits_below, digits-length, digits_value, value-digits_fit, value_append, replicate_below}
@@ -57,9 +57,9 @@ module _ (first rest : List ℕ) (eight : length first ≡ 8) where
       wholes_cut first rest f ∙ ap₂ (λ (n : ℕ) (l : List ℕ). each_block f n first ++ each_block f (length l / 8) l) one nothing_left
 
 -- a block of eight bytes is enciphered by itself
-pub block-enciphered : (key y : ℕ) → y < 2 ^ 64 → enciphered key (bytes_of 8 y) ≡ bytes_of 8 (encipher_of (cell_words key) y)
+pub block_enciphered : (key y : ℕ) → y < 2 ^ 64 → enciphered key (bytes_of 8 y) ≡ bytes_of 8 (encipher_of (cell_words key) y)
 unfolding enciphered
-block-enciphered key y fits =
+block_enciphered key y fits =
     let one : length (bytes_of 8 y) / 8 ≡ 1 = omega (arith, digits-length 256 8 y) in
     ap (λ (n : ℕ). each_block (encipher_of (cell_words key)) n (bytes_of 8 y)) one ∙ one_block (encipher_of (cell_words key)) y fits
 
@@ -67,7 +67,7 @@ block-enciphered key y fits =
 pub rest_enciphered : (key : ℕ) (s : List ℕ) → Below 256 s → length s < 8
     → enciphered key (padded_file s) ≡ bytes_of 8 (encipher_of (cell_words key) (pad_of (length s) (bytes_number s)))
 rest_enciphered key s below few =
-    ap (enciphered key) (sym (last_bytes s below few)) ∙ block-enciphered key (pad_of (length s) (bytes_number s)) (pad-below (length s) (omega arith) (bytes_number s))
+    ap (enciphered key) (sym (last_bytes s below few)) ∙ block_enciphered key (pad_of (length s) (bytes_number s)) (pad-below (length s) (omega arith) (bytes_number s))
 
 -- the same of carried bytes, which are given by their number
 pub last_enciphered : (key n x : ℕ) → n ≤ 7 → x < 256 ^ n → enciphered key (padded_file (bytes_of n x)) ≡ bytes_of 8 (encipher_of (cell_words key) (pad_of n x))

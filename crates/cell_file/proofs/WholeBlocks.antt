@@ -1,14 +1,14 @@
 -- What is enciphered in two pieces, the second after what the first carried on, is what is enciphered at once.
 -- Assumes nothing.
-use mathlib.Core.Path.{◌≡◌, refl, sym, ap, ap₂, ◌∙◌}
+use mathlib.Core.Path.{◌≡◌, sym, ap, ap₂, ◌∙◌}
 use mathlib.Core.List.{List, ◌++◌, append_assoc}
-use Prim.Native.Nat.{ℕ, ◌+◌, ◌-◌, ◌*◌, ◌/◌, ◌%◌, ◌≤◌, ◌<◌}
+use Prim.Native.Nat.{ℕ, ◌+◌, ◌*◌, ◌/◌, ◌%◌}
 use native.Mathlib.Omega.{arith}
 use lib.ListN.{length, drop, replicate, length-append, length-drop, length-replicate}
-use lib.Seq.{drop-append-le, drop-drop}
+use lib.Seq.{drop-append-le}
 use Rattle.blowfish.specs.Cipher.{encipher_of}
 use Rattle.blocks.specs.Blocks.{each_block}
-use Rattle.blocks.proofs.EachBlocks.{each-block-length}
+use Rattle.blocks.proofs.EachBlocks.{each_block-length}
 use Rattle.blocks.proofs.Cuts.{each_before, each_cut}
 use Rattle.cell_file.specs.Enciphering.{cell_words, enciphered, added, padded_file, carried_on}
 
@@ -18,7 +18,7 @@ carried-length s = length-drop (8 * (length s / 8)) s ∙ omega arith
 
 pub enciphered-length : (key : ℕ) (s : List ℕ) → length (enciphered key s) ≡ 8 * (length s / 8)
 unfolding enciphered
-enciphered-length key s = each-block-length (encipher_of (cell_words key)) (length s / 8) s
+enciphered-length key s = each_block-length (encipher_of (cell_words key)) (length s / 8) s
 
 pub padded-length : (s : List ℕ) → length (padded_file s) ≡ 8 * (length s / 8 + 1)
 unfolding padded_file

@@ -1,19 +1,19 @@
 -- The padding of a file stands in its last block. Assumes nothing.
 use mathlib.Core.Path.{◌≡◌, refl, sym, ap, ap₂, ◌∙◌}
 use mathlib.Core.Bool.{Bool, true, false, cond, ◌&&◌}
-use mathlib.Core.List.{List, [], ◌++◌, append-nil}
+use mathlib.Core.List.{List, ◌++◌, append-nil}
 use Prim.Native.Nat.{ℕ, ◌+◌, ◌-◌, ◌*◌, ◌/◌, ◌%◌, ◌≤◌, ◌<◌}
 use native.Mathlib.Omega.{arith}
 use borrow.Author.Tests.{leb-true, lt-leb, le-leb, eqb-true}
-use lib.Dec.{leb, eqb}
-use lib.ListN.{length, get_or, take, drop, replicate, length-append, length-drop, take-append-drop}
-use lib.Seq.{take_all, drop-length, drop-append-add, get_or-append-add, take-append-add}
+use lib.Dec.{leb}
+use lib.ListN.{length, get_or, take, drop, length-append, length-drop}
+use lib.Seq.{take_all, drop-length, drop-append-add, get_or-append-add}
 use Rattle.octets.proofs.Every.{either, and_first, and_second}
 use Rattle.blocks.specs.Blocks.{each_block, blocks_put}
-use Rattle.blocks.proofs.EachBlocks.{each-block-length}
+use Rattle.blocks.proofs.EachBlocks.{each_block-length}
 use Rattle.blocks.proofs.Cuts.{each_cut}
 use Rattle.blocks.proofs.Puts.{put_start}
-use Rattle.cell_opening.specs.Opening.{padding_of, is_padded_file, unpadded_file, has_blocks}
+use Rattle.cell_opening.specs.Opening.{padding_of, is_padded_file, has_blocks}
 use Rattle.cell_opening.specs.Judging.{all_are, padding_in, wholes}
 
 -- what a file's form says of its length
@@ -72,10 +72,10 @@ module _ (d : ℕ → ℕ) (file : List ℕ) (form : has_blocks file ≡ true) w
   pub last_length : length last ≡ 8
   last_length =
       let says = blocks_say file form in
-      each-block-length d (length (drop (length file - 8) file) / 8) (drop (length file - 8) file) ∙ omega (arith, says.0, length-drop (length file - 8) file)
+      each_block-length d (length (drop (length file - 8) file) / 8) (drop (length file - 8) file) ∙ omega (arith, says.0, length-drop (length file - 8) file)
 
   pub before_length : length before ≡ length file - 8
-  before_length = let says = blocks_say file form in each-block-length d (length file / 8 - 1) file ∙ omega (arith, says.0, says.1)
+  before_length = let says = blocks_say file form in each_block-length d (length file / 8 - 1) file ∙ omega (arith, says.0, says.1)
 
   -- the last block is deciphered into eight bytes
   pub last_put : (zeros : List ℕ) → length zeros ≡ 8 → blocks_put d (take (length file - (length file - 8)) (drop (length file - 8) file)) zeros ≡ last
@@ -114,5 +114,5 @@ module _ (s : List ℕ) (eight : length s ≡ 8) where
     pub not_same : test ≡ false → 0 ≡ padding_in s
     not_same e = sym (found ∙ rw (le-leb 1 (get_or s 7 0) h, le-leb (get_or s 7 0) 8 few, sym tested ∙ e))
 
-    pub all-added : test ≡ true → get_or s 7 0 ≡ padding_in s
-    all-added e = sym (found ∙ rw (le-leb 1 (get_or s 7 0) h, le-leb (get_or s 7 0) 8 few, sym tested ∙ e))
+    pub all_added : test ≡ true → get_or s 7 0 ≡ padding_in s
+    all_added e = sym (found ∙ rw (le-leb 1 (get_or s 7 0) h, le-leb (get_or s 7 0) 8 few, sym tested ∙ e))

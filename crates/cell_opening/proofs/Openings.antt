@@ -1,21 +1,17 @@
 -- What opening answers and writes, return by return. Assumes nothing.
 use mathlib.Core.Path.{◌≡◌, refl, sym, ap, ap₂, ◌∙◌}
 use mathlib.Core.Bool.{Bool, true, false, cond, ◌&&◌, ◌||◌}
-use mathlib.Core.List.{List, [], ◌∷◌, ◌++◌}
-use mathlib.Core.Logic.{⊎_elim}
-use Prim.Native.Nat.{ℕ, ◌+◌, ◌-◌, ◌*◌, ◌/◌, ◌%◌, ◌≤◌, ◌<◌}
+use mathlib.Core.List.{List, ◌++◌}
+use Prim.Native.Nat.{ℕ, ◌+◌, ◌-◌, ◌%◌, ◌≤◌, ◌<◌}
 use native.Mathlib.Omega.{arith}
 use borrow.Author.Tests.{leb-true, le-leb, lt-leb, eq-eqb, ne_eqb}
-use denote.Enum.Declared.{tag_of}
-use types.Run.{OneOf}
 use lib.Dec.{leb, eqb}
 use lib.ListN.{length, take, drop}
 use lib.Seq.{length-take-le}
 use Rattle.octets.specs.NoChoice.{AnswerAndLent}
-use Rattle.octets.proofs.Every.{either, and_first, and_second}
+use Rattle.octets.proofs.Every.{and_first, and_second}
 use Rattle.crc32.specs.Crc32.{crc32_of}
 use Rattle.blowfish.specs.Cipher.{decipher_of}
-use Rattle.forms.specs.Identifiers.{is_cell_key}
 use Rattle.forms.specs.Order.{demand}
 use Rattle.cell_file.specs.Enciphering.{most, cell_words}
 use Rattle.cell_file.proofs.Calls.{largest, is_key_lem, no_key}
@@ -37,10 +33,8 @@ use Rattle.cell_opening.specs.Judging.{wholes, judged, refusal_of, opened_by}
 use Rattle.cell_opening.specs.Answers.{file_answer, file_lent}
 use Rattle.cell_opening.specs.declared.Judged.{Judged}
 use Rattle.cell_opening.specs.declared.Judged.TheVariants.{Right, OtherCrc, WrongPadding}
-use Rattle.cell_opening.specs.declared.OpenedFile.{OpenedFile}
 use Rattle.cell_opening.specs.declared.CellFile.{CellFile}
-use Rattle.cell_opening.specs.declared.CellFile.TheVariants as cell-file
-use Rattle.cell_opening.specs.contracts.Judged.{the_type}
+use Rattle.cell_opening.specs.declared.CellFile.TheVariants as cell_file
 use Rattle.cell_opening.proofs.LastBlock.{blocks_say}
 use Rattle.cell_opening.proofs.KeyJudged.{all_length, all_is}
 
@@ -48,7 +42,7 @@ use Rattle.cell_opening.proofs.KeyJudged.{all_length, all_is}
 abbrev pub FileAnswered : Opened → List ℕ → CellFile → List ℕ → Type 0
 FileAnswered o before answer after = AnswerAndLent (file_answer o) (file_lent o before) answer after
 
-pub file_refused : (o : Opened) (n : ℕ) (before : List ℕ) → o ≡ refused n → FileAnswered o before (cell-file.Refused n) before
+pub file_refused : (o : Opened) (n : ℕ) (before : List ℕ) → o ≡ refused n → FileAnswered o before (cell_file.Refused n) before
 file_refused o n before e = (sym (ap file_answer e), sym (ap (λ (p : Opened). file_lent p before) e))
 
 -- what a key gives, by its two tests
@@ -60,9 +54,12 @@ right_tests true true k n e = (refl, (refl, cc))
 right_tests true false k n e = let z : ◌≡◌ {A = ℕ} 0 1 = cc in absurd (omega arith)
 right_tests false same k n e = let z : ◌≡◌ {A = ℕ} 0 1 = cc in absurd (omega arith)
 
--- it is one of the other two
-not_right : (padded same : Bool) (k : ℕ) → OneOf (1 ∷ 2 ∷ []) (tag_of the_type (verdict padded same k)) → (padded && same) ≡ false
-not_right true true k others = absurd (⊎_elim (λ e. omega (arith, e)) (λ e. omega (arith, e)) others)
+-- what is left when a key is not right: one of the other two
+abbrev pub NotRight : Judged → Type 0
+NotRight j = (n : ℕ) → j ≡ Right n → ⊥
+
+not_right : (padded same : Bool) (k : ℕ) → NotRight (verdict padded same k) → (padded && same) ≡ false
+not_right true true k others = absurd (others k refl)
 not_right true false k others = refl
 not_right false same k others = refl
 
@@ -127,9 +124,9 @@ module _ (crc key n : ℕ) (file : List ℕ) (form : has_blocks file ≡ true) (
 
   wrote : (o : Opened) (which : ℕ) (words before after : List ℕ) → o ≡ opened which (text_under key file) → words ≡ cell_words key
       → after ≡ take n (wholes (decipher_of words) file) ++ drop n before
-      → FileAnswered o before (cell-file.Opened (record { length = n; key = which })) after
+      → FileAnswered o before (cell_file.Opened (record { length = n; key = which })) after
   wrote o which words before after e w is = (
-    ap (λ (k : ℕ). cell-file.Opened (record { length = k; key = which })) right_says.1.1 ∙ sym (ap file_answer e),
+    ap (λ (k : ℕ). cell_file.Opened (record { length = k; key = which })) right_says.1.1 ∙ sym (ap file_answer e),
     text_written_lem words before after w is ∙ sym (ap (λ (p : Opened). file_lent p before) e),
   )
 
@@ -143,36 +140,36 @@ module _ (file : List ℕ) (one two crc : ℕ) (form : has_blocks file ≡ true)
   is_chosen = refl
 
   pub first_opened : (n : ℕ) (words before after : List ℕ) → judged crc one file ≡ Right n → words ≡ cell_words one → after ≡ take n (wholes (decipher_of words) file) ++ drop n before
-      → FileAnswered (opened_by file one two crc) before (cell-file.Opened (record { length = n; key = 1 })) after
+      → FileAnswered (opened_by file one two crc) before (cell_file.Opened (record { length = n; key = 1 })) after
   first_opened n words before after right w is =
       let says = right_says crc one n file form right in
       wrote crc one n file form right (opened_by file one two crc) 1 words before after (is_chosen ∙ rw (says.0, says.1.0)) w is
 
-  module _ (others : OneOf (1 ∷ 2 ∷ []) (tag_of the_type (judged crc one file))) where
-    first-wrong : (gives_padding one file && same one) ≡ false
+  module _ (others : NotRight (judged crc one file)) where
+    first_wrong : (gives_padding one file && same one) ≡ false
     unfolding judged
-    first-wrong = not_right (gives_padding one file) (same one) (length (text_under one file)) others
+    first_wrong = not_right (gives_padding one file) (same one) (length (text_under one file)) others
 
-    pub second-opened : (n : ℕ) (words before after : List ℕ) → judged crc two file ≡ Right n → words ≡ cell_words two
+    pub second_opened : (n : ℕ) (words before after : List ℕ) → judged crc two file ≡ Right n → words ≡ cell_words two
         → after ≡ take n (wholes (decipher_of words) file) ++ drop n before
-        → FileAnswered (opened_by file one two crc) before (cell-file.Opened (record { length = n; key = 2 })) after
-    second-opened n words before after right w is =
+        → FileAnswered (opened_by file one two crc) before (cell_file.Opened (record { length = n; key = 2 })) after
+    second_opened n words before after right w is =
         let says = right_says crc two n file form right in
         wrote crc two n file form right (opened_by file one two crc) 2 words before after
         (is_chosen
         ∙ ap₂ (λ (p s : Bool). chosen (gives_padding one file) (same one) p s (opened 1 (text_under one file)) (opened 2 (text_under two file))) says.0 says.1.0
-        ∙ second_chosen (gives_padding one file) (same one) (opened 1 (text_under one file)) (opened 2 (text_under two file)) first-wrong)
+        ∙ second_chosen (gives_padding one file) (same one) (opened 1 (text_under one file)) (opened 2 (text_under two file)) first_wrong)
         w is
 
-    pub none-opened : (r : ℕ) (before : List ℕ) → OneOf (1 ∷ 2 ∷ []) (tag_of the_type (judged crc two file)) → r ≡ refusal_of (judged crc one file) (judged crc two file)
-        → FileAnswered (opened_by file one two crc) before (cell-file.Refused r) before
+    pub none_opened : (r : ℕ) (before : List ℕ) → NotRight (judged crc two file) → r ≡ refusal_of (judged crc one file) (judged crc two file)
+        → FileAnswered (opened_by file one two crc) before (cell_file.Refused r) before
     unfolding judged
-    none-opened r before others-too is =
+    none_opened r before others_too is =
         file_refused (opened_by file one two crc) r before
         (is_chosen
         ∙ none_chosen (gives_padding one file) (same one) (gives_padding two file) (same two) (length (text_under one file)) (length (text_under two file))
-        (opened 1 (text_under one file)) (opened 2 (text_under two file)) first-wrong
-        (not_right (gives_padding two file) (same two) (length (text_under two file)) others-too)
+        (opened 1 (text_under one file)) (opened 2 (text_under two file)) first_wrong
+        (not_right (gives_padding two file) (same two) (length (text_under two file)) others_too)
         ∙ ap refused (sym is))
 
 module _ (file : List ℕ) (one two crc room : ℕ) where
@@ -204,9 +201,9 @@ module _ (file : List ℕ) (one two crc room : ℕ) where
         no_blocks some h =
             rw (is_key_lem one k, is_key_lem two l, le-leb (length file) (most + 8) fits, le-leb (length file) room enough, le-leb 1 (length file) some, ne_eqb (length file % 8) 0 h)
 
-        pub by-keys : has_blocks file ≡ true → opened_file file one two crc room ≡ opened_by file one two crc
+        pub by_keys : has_blocks file ≡ true → opened_file file one two crc room ≡ opened_by file one two crc
         unfolding opened_file opened_by
-        by-keys form = rw (is_key_lem one k, is_key_lem two l, le-leb (length file) (most + 8) fits, le-leb (length file) room enough, form)
+        by_keys form = rw (is_key_lem one k, is_key_lem two l, le-leb (length file) (most + 8) fits, le-leb (length file) room enough, form)
 
 -- a length that is no zero and a multiple of 8
 pub form_is : (file : List ℕ) → 1 ≤ length file → length file % 8 ≡ 0 → has_blocks file ≡ true

@@ -1,20 +1,19 @@
 -- What was enciphered is opened again, by the first key that is right; and files are kept apart.
 -- Assumes nothing.
-use mathlib.Core.Path.{◌≡◌, refl, sym, ap, ap₂, ◌∙◌}
+use mathlib.Core.Path.{◌≡◌, refl, sym, ap, ◌∙◌}
 use mathlib.Core.Bool.{Bool, true, false, cond, ◌&&◌, ◌||◌}
 use mathlib.Core.List.{List}
-use Prim.Native.Nat.{ℕ, ◌+◌, ◌-◌, ◌*◌, ◌/◌, ◌%◌, ◌^◌, ◌≤◌, ◌<◌}
+use Prim.Native.Nat.{ℕ, ◌+◌, ◌*◌, ◌/◌, ◌%◌, ◌^◌, ◌≤◌}
 use native.Mathlib.Omega.{arith}
 use borrow.Author.Tests.{le-leb, leb-true, eq-eqb}
-use lib.Dec.{leb, eqb}
-use lib.ListN.{length, take, replicate}
+use lib.Dec.{leb}
+use lib.ListN.{length, replicate}
 use lib.Seq.{take_all}
 use Rattle.octets.specs.Numbers.{Below, bytes_of}
 use Rattle.octets.proofs.Digits.{append_below, digits_below, replicate_below}
-use Rattle.octets.proofs.Every.{and_first, and_second, either}
+use Rattle.octets.proofs.Every.{and_first, and_second}
 use Rattle.crc32.specs.Crc32.{crc32_of}
 use Rattle.blowfish.specs.Cipher.{encipher_of, decipher_of}
-use Rattle.blowfish.specs.Schedule.{schedule}
 use Rattle.blowfish.proofs.Words.{number_back, blocks_stay_blocks, keys_have_words}
 use Rattle.blocks.specs.Blocks.{each_block}
 use Rattle.blocks.proofs.BackAgain.{each_back}
@@ -84,8 +83,8 @@ decided : (file : List ℕ) (one two crc room : ℕ)
     (demand (is_right_key crc one file || is_right_key crc two file) (refused 16)
     (cond (is_right_key crc one file) (opened 1 (text_under one file)) (opened 2 (text_under two file))))
 unfolding opened_file
-decided file one two crc room good-one good-two fits enough blocks =
-    rw (good-one, good-two, le-leb (length file) (most + 8) fits, le-leb (length file) room enough, blocks)
+decided file one two crc room good_one good_two fits enough blocks =
+    rw (good_one, good_two, le-leb (length file) (most + 8) fits, le-leb (length file) room enough, blocks)
 
 by_numbers : (padding right first : Bool) (t u : List ℕ)
     → opened_number (demand padding (refused 21) (demand right (refused 16) (cond first (opened 1 t) (opened 2 u)))) ≡ cond padding (cond right 0 16) 21
@@ -95,12 +94,12 @@ by_numbers true true true t u = refl
 by_numbers true true false t u = refl
 
 pub which_comes : WhichComes
-which_comes file one two crc room good-one good-two fits enough blocks =
-    ap opened_number (decided file one two crc room good-one good-two fits enough blocks)
+which_comes file one two crc room good_one good_two fits enough blocks =
+    ap opened_number (decided file one two crc room good_one good_two fits enough blocks)
     ∙ by_numbers (gives_padding one file || gives_padding two file) (is_right_key crc one file || is_right_key crc two file) (is_right_key crc one file)
     (text_under one file) (text_under two file)
 
-module _ (file t : List ℕ) (one two room : ℕ) (good-one : is_cell_key one ≡ true) (good-two : is_cell_key two ≡ true) (enough : length t ≤ room) where
+module _ (file t : List ℕ) (one two room : ℕ) (good_one : is_cell_key one ≡ true) (good_two : is_cell_key two ≡ true) (enough : length t ≤ room) where
   -- a file that was enciphered under some key passes what is asked first
   first_passed : (key : ℕ) → t ≡ enciphered key (padded_file file) → length file ≤ most
       → opened_file t one two (crc32_of file) room
@@ -109,30 +108,30 @@ module _ (file t : List ℕ) (one two room : ℕ) (good-one : is_cell_key one �
       (cond (is_right_key (crc32_of file) one t) (opened 1 (text_under one t)) (opened 2 (text_under two t))))
   first_passed key e fits =
       let size = ap length e ∙ file_length key file in
-      decided t one two (crc32_of file) room good-one good-two (omega (arith, size)) enough
+      decided t one two (crc32_of file) room good_one good_two (omega (arith, size)) enough
       (rw (le-leb 1 (length t) (omega (arith, size)), eq-eqb (length t % 8) 0 (omega (arith, size))))
 
 pub opens_under_one : OpensUnderOne
-opens_under_one file t one two written room below e good-two enough =
+opens_under_one file t one two written room below e good_two enough =
     let says = file_says one written file t e in
     let is = says.1.1 in
     let padding : gives_padding one t ≡ true = ap (gives_padding one) is ∙ own_padding one file below in
     let right : is_right_key (crc32_of file) one t ≡ true = ap (is_right_key (crc32_of file) one) is ∙ own_right one file below in
     let plain : text_under one t ≡ file = ap (text_under one) is ∙ own_text one file below in
-    first_passed file t one two room says.0 good-two enough one is says.1.0 ∙ rw (padding, right, plain)
+    first_passed file t one two room says.0 good_two enough one is says.1.0 ∙ rw (padding, right, plain)
 
 either_true : (a : Bool) → (a || true) ≡ true
 either_true true = refl
 either_true false = refl
 
 pub opens_under_two : OpensUnderTwo
-opens_under_two file t one two written room below e good-one enough =
+opens_under_two file t one two written room below e good_one enough =
     let says = file_says two written file t e in
     let is = says.1.1 in
     let padding : gives_padding two t ≡ true = ap (gives_padding two) is ∙ own_padding two file below in
     let right : is_right_key (crc32_of file) two t ≡ true = ap (is_right_key (crc32_of file) two) is ∙ own_right two file below in
     let plain : text_under two t ≡ file = ap (text_under two) is ∙ own_text two file below in
-    first_passed file t one two room good-one says.0 enough two is says.1.0
+    first_passed file t one two room good_one says.0 enough two is says.1.0
     ∙ rw (padding, right, plain, either_true (gives_padding one t), either_true (is_right_key (crc32_of file) one t))
 
 pub keeps_apart : KeepsApart

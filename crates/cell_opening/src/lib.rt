@@ -35,7 +35,7 @@ enum Judged {
 }
 
 // Whether all bytes are b.
-fn all_are_lem(s: &[u8], b: u8) -> bool
+fn all_are(s: &[u8], b: u8) -> bool
     ensures { result ≡ all_are b s.now }
 {
     let mut i: usize = 0;
@@ -60,7 +60,7 @@ fn padding_in(last: [u8; 8]) -> usize
         return 0;
     }
     let count = n as usize;
-    if !all_are_lem(&last[8 - count..], n) {
+    if !all_are(&last[8 - count..], n) {
         return 0;
     }
     count

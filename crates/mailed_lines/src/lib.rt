@@ -1,4 +1,6 @@
 // The lines of a mailed permit file: cut at LF, what is wrong with each, what becomes of it, and what the list says of it.
+#![tactic(auto)]
+
 ghost use Rattle.std.specs.Prelude.{◌≡◌, length};
 ghost use Rattle.text.specs.Characters.{raised_text};
 ghost use Rattle.text.specs.Texts.{same_text};

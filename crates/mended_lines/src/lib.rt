@@ -1,5 +1,7 @@
 // What each line of a mailed permit file gives: its part of the mended file and its part of the list, each put at a place of its output.
 // Each function answers how many bytes both have, whether or not they lie within their outputs: so empty outputs measure them.
+#![tactic(auto)]
+
 ghost use Rattle.std.specs.Prelude.{◌≡◌, ◌++◌, length};
 ghost use Rattle.text.specs.Texts.{placed};
 ghost use Rattle.mailed_lines.specs.Mailed.{line_of, unblanked, fate_of};

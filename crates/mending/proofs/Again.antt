@@ -2,32 +2,29 @@
 -- Assumes nothing.
 use mathlib.Core.Path.{◌≡◌, refl, sym, ap, subst, ◌∙◌}
 use mathlib.Core.Bool.{Bool, true, false, not}
-use mathlib.Core.List.{List, [], ◌∷◌, ◌++◌, append_assoc, append-nil}
-use Prim.Native.Nat.{ℕ, suc, ◌+◌}
+use mathlib.Core.List.{List, [], ◌∷◌, ◌++◌, append_assoc}
+use Prim.Native.Nat.{ℕ, suc}
 use native.Mathlib.Omega.{arith}
 use borrow.Author.Tests.{not-false}
-use lib.ListN.{length, length-append}
 use Rattle.octets.specs.Every.{all_of}
-use Rattle.octets.proofs.Every.{either, all_more}
+use Rattle.octets.proofs.Every.{either}
 use Rattle.text.specs.Ascii.{ascii}
 use Rattle.text.specs.Characters.{raised, raised_text}
 use Rattle.text.specs.Texts.{same_text, onto}
 use Rattle.text.proofs.SameTexts.{same_true, same_refl}
 use Rattle.text.proofs.TextsAt.{all_append}
 use Rattle.cell_permit.specs.CellPermit.{line_end}
-use Rattle.cell_permit.specs.Line.{is_line}
 use Rattle.file_lines.specs.Lines.{ecs}
 use Rattle.permit_file.specs.File.{is_header}
 use Rattle.permit_file.proofs.Headers.{header_within}
 use Rattle.mailed_lines.specs.Texts.{texts_of, joined}
 use Rattle.mailed_lines.specs.Mailed.{ends_in_cr, line_of, unblanked, before_rest, is_ecs, fate_of}
-use Rattle.mailed_lines.specs.Saying.{said, faults_said, out_said}
 use Rattle.mailed_lines.specs.declared.Fate.{Fate}
 use Rattle.mailed_lines.specs.declared.Fate.TheVariants.{Kept, Last, Out}
-use Rattle.mailed_lines.proofs.CutTexts.{not_lf, AllWithout, first_of, rest_of, never_empty, joined_texts, texts_without, text_before}
+use Rattle.mailed_lines.proofs.CutTexts.{not_lf, AllWithout, never_empty, joined_texts, texts_without, text_before}
 use Rattle.mailed_lines.proofs.Lines.{line_before_cr, cr_at_end, line_and_cr, unblanked_stays, raised_twice, raised-unblanked, line_without, unblanked_without, raised_without}
 use Rattle.mailed_lines.proofs.SaidTexts.{said_some, out_some, faults_none, none_said}
-use Rattle.mended_lines.specs.Gives.{Gives, faults_of, header_gives, gives_by, unended_gives}
+use Rattle.mended_lines.specs.Gives.{faults_of, header_gives, gives_by, unended_gives}
 use Rattle.mending.specs.Mending.{Mended, gives_of, followed, mended_from, mended_texts, mended_of, is_mended}
 use Rattle.mending.specs.Again.{MendedStays, ListedExactly}
 

@@ -1,24 +1,23 @@
 -- A record without comment that stands as it should: it has no LF, and gives itself with its CR LF.
 -- Assumes nothing.
-use mathlib.Core.Path.{◌≡◌, refl, sym, ap, ap₂, subst, ◌∙◌}
-use mathlib.Core.Bool.{Bool, true, false, not, ◌||◌}
+use mathlib.Core.Path.{◌≡◌, refl, sym, ap, ap₂, ◌∙◌}
+use mathlib.Core.Bool.{Bool, true, false}
 use mathlib.Core.List.{List, [], ◌∷◌, ◌++◌, append_assoc}
-use Prim.Native.Nat.{ℕ, zero, suc, ◌+◌, ◌-◌, ◌^◌, ◌≤◌, ◌<◌}
+use Prim.Native.Nat.{ℕ, zero, suc, ◌+◌, ◌-◌, ◌≤◌, ◌<◌}
 use native.Mathlib.Omega.{arith}
 use borrow.Author.Tests.{eqb-true, ne_eqb, leb-true, not-true}
 use lib.Dec.{leb, eqb}
 use lib.ListN.{length, get_or, take, drop, length-append, length-drop, take-append-drop}
-use lib.Seq.{take-length, take_all, take-add, drop-cons, drop-drop, get_or-drop, length-take-le, get_or-take}
+use lib.Seq.{take-length, take-add, drop-cons, drop-drop, get_or-drop, length-take-le, get_or-take}
 use Rattle.octets.specs.Every.{all_of}
 use Rattle.octets.proofs.Every.{either, never_both, all_weaken, all_first, all_rest}
-use Rattle.text.specs.Characters.{between, is_digit, is_hex, is_upper_hex, is_name_character, is_printable, raised}
-use Rattle.text.specs.Texts.{part, all_at, placed}
-use Rattle.text.proofs.PlacedTexts.{placed_none}
+use Rattle.text.specs.Characters.{is_digit, is_hex, is_upper_hex, is_name_character, is_printable, raised}
+use Rattle.text.specs.Texts.{part, all_at}
 use Rattle.text.proofs.SameTexts.{same_refl}
 use Rattle.text.proofs.TextsAt.{all_append, all_there, all_within, all_at_place, all_join}
 use Rattle.forms.proofs.DateTexts.{date_tests}
 use Rattle.cell_permit.specs.CellPermit.{comma, line_end}
-use Rattle.cell_permit.specs.Line.{comma_at, edition_length, comment_place, is_line}
+use Rattle.cell_permit.specs.Line.{comma_at, edition_length, is_line}
 use Rattle.cell_permit.proofs.GoodLine.{GoodLine, good_line}
 use Rattle.cell_permit.proofs.ReadFields.{comma-within, leading_all, edition_few}
 use Rattle.line_shape.specs.Plain.{plain_length}

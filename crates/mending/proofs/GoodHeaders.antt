@@ -1,13 +1,13 @@
 -- A good header at a mended file's start: its three lines are the first three lines mended, 40 bytes with their CR LFs, and the rest follows them.
 -- Assumes nothing.
 use mathlib.Core.Path.{◌≡◌, refl, sym, ap, ap₂, ◌∙◌}
-use mathlib.Core.Bool.{Bool, true, ◌&&◌}
+use mathlib.Core.Bool.{true}
 use mathlib.Core.List.{List, [], ◌∷◌, ◌++◌, append_assoc}
 use Prim.Native.Nat.{ℕ, ◌+◌, ◌≤◌}
 use native.Mathlib.Omega.{arith}
 use borrow.Author.Tests.{eqb-true}
 use lib.Dec.{eqb, ltb}
-use lib.ListN.{length, get_or, take, drop, length-append, length-drop, take-append-drop}
+use lib.ListN.{length, get_or, take, drop, length-append, take-append-drop}
 use lib.Seq.{drop-cons, drop-drop, length-take-le}
 use Rattle.octets.specs.Every.{all_of}
 use Rattle.octets.proofs.Every.{and_first, and_second, either, all_weaken}
@@ -21,7 +21,7 @@ use Rattle.forms.specs.DateText.{is_date_at}
 use Rattle.forms.proofs.DateTexts.{date_tests}
 use Rattle.file_lines.specs.Dated.{date_mark, is_below, is_dated}
 use Rattle.file_lines.proofs.DatedFiles.{to_start, to_date, to_blank, to_hour, to_colon}
-use Rattle.permit_file.specs.File.{header_rest, is_header, first_place}
+use Rattle.permit_file.specs.File.{header_rest, is_header}
 use Rattle.permit_file.proofs.Headers.{header_within}
 use Rattle.mailed_lines.specs.Texts.{texts_of, joined}
 use Rattle.mailed_lines.proofs.CutTexts.{not_lf, AllWithout, first_of, rest_of, text_before, joined_texts}

@@ -1,20 +1,20 @@
 -- The first three texts of a file, by their ends: what they give before the rest, and when they are a good header.
 -- Assumes nothing.
-use mathlib.Core.Path.{◌≡◌, refl, sym, ap, ap₂, subst, ◌∙◌}
+use mathlib.Core.Path.{◌≡◌, refl, sym, ap, subst, ◌∙◌}
 use mathlib.Core.Bool.{Bool, true, false, cond, not, ◌&&◌}
 use mathlib.Core.List.{List, [], ◌∷◌, ◌++◌, append_assoc}
 use Prim.Native.Nat.{ℕ, suc, ◌+◌, ◌-◌, ◌≤◌, ◌<◌}
 use native.Mathlib.Omega.{arith}
 use borrow.Author.Tests.{le-ltb, lt-ltb, ltb-true, ltb-false}
 use lib.Dec.{ltb}
-use lib.ListN.{length, take, drop, length-append, length-take, length-drop, length-map}
+use lib.ListN.{length, take, drop, length-append, length-take, length-map}
 use lib.Seq.{take-append-le}
 use Rattle.octets.proofs.Every.{either, never_both, and_first, and_second}
 use Rattle.text.specs.Characters.{raised, raised_text}
 use Rattle.text.specs.Texts.{same_text}
 use Rattle.text.proofs.Numerals.{width-at-most}
 use Rattle.cell_permit.specs.CellPermit.{line_end}
-use Rattle.permit_file.specs.File.{is_header, first_place}
+use Rattle.permit_file.specs.File.{is_header}
 use Rattle.permit_file.proofs.Headers.{header_within, header_first}
 use Rattle.file_lines.specs.Texts.{text_ends}
 use Rattle.mailed_lines.specs.Texts.{texts_of}
@@ -26,7 +26,6 @@ use Rattle.mended_lines.specs.Gives.{header_gives}
 use Rattle.mending.specs.Mending.{Mended, mended_from, mended_texts, mended_of, is_mended}
 use Rattle.mending.specs.Walking.{ends_of, header_ends, first_text, second_text, third_text, header_of, later_of}
 use Rattle.mending.specs.declared.header.Ends.{Ends}
-use Rattle.mending.specs.declared.header.Header.{Header}
 use Rattle.mending.specs.declared.header.Header.TheVariants.{Three, Fewer}
 use Rattle.mending.proofs.Again.{header_line, headed}
 use Rattle.mending.proofs.GoodHeaders.{header_sizes}

@@ -1,44 +1,38 @@
 -- The mended file is read as its kept lines are, one by one, and gives no 12.
 -- Assumes nothing.
-use mathlib.Core.Path.{◌≡◌, refl, sym, ap, ap₂, subst, fun_ext, ◌∙◌}
-use mathlib.Core.Bool.{Bool, true, false, not}
+use mathlib.Core.Path.{◌≡◌, refl, sym, ap, fun_ext, ◌∙◌}
+use mathlib.Core.Bool.{true, false}
 use mathlib.Core.List.{List, [], ◌∷◌, ◌++◌, map, append_assoc}
 use Prim.Native.Nat.{ℕ, suc}
-use native.Mathlib.Omega.{arith}
-use borrow.Author.Tests.{eqb-true, eq-eqb, ne_eqb, not-true}
+use borrow.Author.Tests.{eq-eqb, ne_eqb, not-true}
 use lib.Dec.{eqb}
 use lib.ListN.{drop}
 use Rattle.octets.specs.Every.{all_of, count_of}
-use Rattle.octets.specs.declared.numbers.Reading.{Reading}
-use Rattle.octets.specs.declared.numbers.Reading.TheVariants.{Number, Wrong}
-use Rattle.octets.proofs.Every.{either, never_both, and_first, all_first, all_rest}
-use Rattle.text.specs.Characters.{raised, raised_text}
+use Rattle.octets.proofs.Every.{either, never_both, all_first, all_rest}
+use Rattle.text.specs.Characters.{raised}
 use Rattle.text.specs.Texts.{same_text, onto}
 use Rattle.text.proofs.SameTexts.{same_true}
-use Rattle.dates.specs.declared.Notice.{Notice}
-use Rattle.forms.proofs.Demands.{demanded}
-use Rattle.cell_permit.specs.CellPermit.{ship_words, check_of, line_end}
+use Rattle.cell_permit.specs.CellPermit.{ship_words, line_end}
 use Rattle.cell_permit.specs.Line.{is_line, read_with, given_number, read_line, line_number}
 use Rattle.cell_permit.specs.declared.Line.{Line}
-use Rattle.cell_permit.specs.declared.Line.TheVariants as line
 use Rattle.cell_permit.proofs.LineNumbers.{shape_no_12}
 use Rattle.file_lines.specs.Lines.{ecs}
 use Rattle.file_lines.specs.EncPart.{lines_of, enc_lines, is_closed}
 use Rattle.file_lines.proofs.Walks.{lines_join, enc_more, enc_none}
-use Rattle.permit_file.specs.File.{is_header, first_place, step_by, step_of}
+use Rattle.permit_file.specs.File.{is_header, step_by}
 use Rattle.permit_file.specs.Answers.{enc_answers}
 use Rattle.permit_file.proofs.Answers.{answers_of_lines}
 use Rattle.permit_file.proofs.Headers.{header_within}
 use Rattle.permit_file.proofs.Steps.{given_good}
 use Rattle.mailed_lines.specs.Texts.{texts_of, joined}
-use Rattle.mailed_lines.specs.Mailed.{line_of, unblanked, before_rest, is_ecs, fate_of}
+use Rattle.mailed_lines.specs.Mailed.{line_of, unblanked, is_ecs, fate_of}
 use Rattle.mailed_lines.specs.declared.Fate.{Fate}
 use Rattle.mailed_lines.specs.declared.Fate.TheVariants.{Kept, Last, Out}
-use Rattle.mailed_lines.proofs.CutTexts.{not_lf, AllWithout, texts_without}
+use Rattle.mailed_lines.proofs.CutTexts.{not_lf, AllWithout}
 use Rattle.mailed_lines.proofs.Lines.{line_without, unblanked_without}
 use Rattle.mailed_lines.proofs.Fates.{kept_is}
 use Rattle.mended_lines.specs.Gives.{unended_gives}
-use Rattle.mending.specs.Mending.{Mended, mended_from, gives_of, mended_texts, mended_of, is_mended}
+use Rattle.mending.specs.Mending.{mended_from, gives_of, mended_texts, mended_of, is_mended}
 use Rattle.mending.specs.ReadAgain.{kept_by, kept_from, kept_lines, ReadsAsKept, is_twelve, NoTwelve}
 use Rattle.mending.proofs.Again.{for-headed}
 use Rattle.mending.proofs.GoodHeaders.{after_header_lem}

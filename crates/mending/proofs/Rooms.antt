@@ -1,16 +1,15 @@
 -- How long a mended file and its list are at most, line by line and as a whole.
 -- Assumes nothing.
 use mathlib.Core.Path.{◌≡◌, refl, sym, ap, ◌∙◌}
-use mathlib.Core.Bool.{Bool, true, false, not}
+use mathlib.Core.Bool.{true, false, not}
 use mathlib.Core.List.{List, [], ◌∷◌, ◌++◌}
-use Prim.Native.Nat.{ℕ, suc, ◌+◌, ◌-◌, ◌*◌, ◌/◌, ◌^◌, ◌≤◌, ◌<◌}
+use Prim.Native.Nat.{ℕ, suc, ◌+◌, ◌-◌, ◌*◌, ◌/◌, ◌≤◌, ◌<◌}
 use native.Mathlib.Omega.{arith}
 use borrow.Author.Tests.{leb-true}
 use lib.Dec.{leb}
 use lib.ListN.{length, drop, length-append, length-drop}
 use Rattle.octets.proofs.Every.{either, never_both}
 use Rattle.text.specs.Ascii.{ascii}
-use Rattle.text.specs.Characters.{raised_text}
 use Rattle.text.specs.Texts.{width, same_text}
 use Rattle.text.proofs.Numerals.{width-at-most}
 use Rattle.cell_permit.specs.CellPermit.{line_end}
@@ -25,12 +24,11 @@ use Rattle.mailed_lines.proofs.CutTexts.{first_of, rest_of, never_empty, joined_
 use Rattle.mailed_lines.proofs.Fates.{kept_is, last_is, line-long, ecs_size}
 use Rattle.mailed_lines.proofs.Lines.{line_short, unblanked_short}
 use Rattle.mailed_lines.proofs.SaidTexts.{said-length, out_length, faults_length}
-use Rattle.mended_lines.specs.Gives.{faults_of, header_gives, unended_gives}
-use Rattle.mending.specs.Mending.{Mended, gives_of, mended_from, mended_of, is_mended}
+use Rattle.mended_lines.specs.Gives.{faults_of, unended_gives}
+use Rattle.mending.specs.Mending.{gives_of, mended_from, mended_of, is_mended}
 use Rattle.mending.specs.Program.{printed}
 use Rattle.mending.specs.Enough.{FileRoom, ListRoom, RoomEnough}
-use Rattle.mending.specs.Walking.{header_ends, first_text, second_text, third_text, header_of, later_of}
-use Rattle.mending.specs.declared.header.Ends.{Ends}
+use Rattle.mending.specs.Walking.{header_ends, header_of, later_of}
 use Rattle.mending.specs.declared.header.Header.{Header}
 use Rattle.mending.specs.declared.header.Header.TheVariants.{Three, Fewer}
 use Rattle.mending.proofs.HeaderTexts.{header_list, fewer, ends_rise, header_and_later, good-size, good-place}

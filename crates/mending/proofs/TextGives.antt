@@ -1,7 +1,7 @@
 -- What the text at a place gives: by whether LF ends it, how long it is, and that the rest follows it.
 -- Assumes nothing.
 use mathlib.Core.Path.{◌≡◌, refl, sym, ap, ap₂, subst, ◌∙◌}
-use mathlib.Core.Bool.{Bool, true, false, cond, not}
+use mathlib.Core.Bool.{true, false, not}
 use mathlib.Core.List.{List, [], ◌∷◌, ◌++◌}
 use Prim.Native.Nat.{ℕ, suc, ◌+◌, ◌-◌, ◌*◌, ◌≤◌, ◌<◌}
 use native.Mathlib.Numerals.{add-one}
@@ -21,7 +21,7 @@ use Rattle.mailed_lines.specs.Mailed.{ends_in_cr, line_of, unblanked, is_ecs, fa
 use Rattle.mailed_lines.specs.Saying.{said, out_said}
 use Rattle.mailed_lines.specs.declared.Fate.{Fate}
 use Rattle.mailed_lines.specs.declared.Fate.TheVariants.{Kept, Last, Out}
-use Rattle.mailed_lines.proofs.CutTexts.{first_of, rest_of, never_empty, joined_texts, text_begins, text_ends_within, last_text_at, first_text_at}
+use Rattle.mailed_lines.proofs.CutTexts.{never_empty, joined_texts, text_begins, text_ends_within, last_text_at, first_text_at}
 use Rattle.mailed_lines.proofs.Lines.{line_short, unblanked_short}
 use Rattle.mailed_lines.proofs.SaidTexts.{said-length, out_length, faults_length}
 use Rattle.mended_lines.specs.Gives.{Gives, gives_by, unended_gives}

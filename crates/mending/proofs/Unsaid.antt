@@ -1,23 +1,23 @@
 -- Each old line up to :ECS is kept or left out: what each gives makes up the mended file and the list, and nothing disappears unsaid.
 -- Assumes nothing.
 use mathlib.Core.Path.{◌≡◌, refl, sym, ap, subst, ◌∙◌}
-use mathlib.Core.Bool.{Bool, true, false, cond, not}
+use mathlib.Core.Bool.{true, false, not}
 use mathlib.Core.List.{List, [], ◌∷◌, ◌++◌, append_assoc, append-nil}
-use mathlib.Core.Logic.{◌⊎◌, ⊎_elim}
+use mathlib.Core.Logic.{⊎_elim}
 use Prim.Native.Nat.{ℕ, suc}
 use lib.ListN.{drop}
 use Rattle.octets.proofs.Every.{either}
 use Rattle.cell_permit.specs.CellPermit.{line_end}
 use Rattle.file_lines.specs.Lines.{ecs}
-use Rattle.mailed_lines.specs.Texts.{texts_of, joined}
+use Rattle.mailed_lines.specs.Texts.{joined}
 use Rattle.mailed_lines.specs.Mailed.{ends_in_cr, line_of, unblanked, is_ecs, fate_of}
 use Rattle.mailed_lines.specs.Saying.{out_said}
 use Rattle.mailed_lines.specs.declared.Fate.{Fate}
 use Rattle.mailed_lines.specs.declared.Fate.TheVariants.{Kept, Last, Out}
 use Rattle.mailed_lines.proofs.Fates.{kept_is, last_is, out_is_lem}
 use Rattle.mended_lines.specs.Gives.{faults_of, header_gives, unended_gives}
-use Rattle.mending.specs.Mending.{gives_of, mended_from, mended_texts, mended_of, is_mended}
-use Rattle.mending.specs.Unsaid.{Old, ended_old, unended_old, old_from, old_lines, each, in_file, in_list, after_ecs, added_after, EachLine, Among, Within, NothingUnsaid}
+use Rattle.mending.specs.Mending.{gives_of, mended_from, mended_texts, mended_of}
+use Rattle.mending.specs.Unsaid.{Old, ended_old, unended_old, old_from, each, in_file, in_list, after_ecs, added_after, EachLine, Among, Within, NothingUnsaid}
 use Rattle.mending.proofs.Again.{for-headed}
 
 -- what each old line is in the old file

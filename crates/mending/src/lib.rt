@@ -1,4 +1,6 @@
 // A mailed permit file mended: the whole file, and the whole list of what was wrong with it.
+#![tactic(auto)]
+
 ghost use Rattle.std.specs.Prelude.{◌≡◌, true, ◌<◌, ◌^◌, length};
 ghost use Rattle.mending.specs.Mending.{mended_of, is_mended, mending};
 ghost use Rattle.mending.specs.Answers.{answer_of, file_lent, list_lent};
@@ -25,7 +27,7 @@ pub enum Answer {
     Refused(u32),
 }
 
-// Whether a file of so many bytes surely fits, whatever is in it (the laws file-room and list-room): then nothing need be measured.
+// Whether a file of so many bytes surely fits, whatever is in it (the laws file_room_lem and list_room_lem): then nothing need be measured.
 fn surely_fits(size: usize, room: Lengths) -> bool
     requires { size < 2 ^ 63 }
     ensures { result ≡ true → SurelyFits size room }

@@ -31,8 +31,8 @@ module _ {s₀ : List ℕ} where
   cleared_none = record { few = omega arith; same = refl; clear = refl }
 
   module _ {s : List ℕ} {i : ℕ} (so_far : Cleared s₀ s i) where
-    pub cleared-next : i < length s → Cleared s₀ (set s i 0) (i + 1)
-    cleared-next more =
+    pub cleared_next : i < length s → Cleared s₀ (set s i 0) (i + 1)
+    cleared_next more =
         let next : i + 1 ≡ suc i = omega arith in
         record {
           few = omega (arith, so_far.same);
@@ -44,8 +44,8 @@ module _ {s₀ : List ℕ} where
               ∙ replicate-append-replicate i 1 0;
         }
 
-    pub cleared-all : length s ≤ i → s ≡ zeros (length s₀)
-    cleared-all done =
+    pub cleared_all : length s ≤ i → s ≡ zeros (length s₀)
+    cleared_all done =
         let all : i ≡ length s₀ = omega (arith, so_far.same, so_far.few) in
         sym (take_all i s done) ∙ so_far.clear ∙ ap zeros all
 
@@ -74,17 +74,17 @@ module _ (quotas ids principals : List ℕ) where
   settings_none room = record { put = put_none setting_size setting_bytes setting_place (first_setting quotas ids principals) 16 room }
 
   module _ {s₀ s : List ℕ} {t : ℕ} (so_far : SettingsPut s₀ s t) where
-    pub settings-next : t < 16 → (x : Setting) (s₁ : List ℕ) → x ≡ first_setting quotas ids principals t
+    pub settings_next : t < 16 → (x : Setting) (s₁ : List ℕ) → x ≡ first_setting quotas ids principals t
         → s₁ ≡ placed (setting_place t) (setting_bytes x) s → SettingsPut s₀ s₁ (t + 1)
-    settings-next more x s₁ is written =
+    settings_next more x s₁ is written =
         let here : s₁ ≡ placed (setting_place t) (setting_bytes (first_setting quotas ids principals t)) s =
         written ∙ ap (λ (y : Setting). placed (setting_place t) (setting_bytes y) s) is in
         record {
           put = put_next setting_size setting_bytes setting_place (first_setting quotas ids principals) 16 setting_size_lem (λ i. omega arith) so_far.put more s₁ here;
         }
 
-    pub settings-all : 16 ≤ t → s ≡ placed 5 (first_bytes_lem 0 16) s₀
-    settings-all done = put_all setting_size setting_bytes setting_place (first_setting quotas ids principals) 16 setting_size_lem (λ i. omega arith) so_far.put done
+    pub settings_all : 16 ≤ t → s ≡ placed 5 (first_bytes_lem 0 16) s₀
+    settings_all done = put_all setting_size setting_bytes setting_place (first_setting quotas ids principals) 16 setting_size_lem (λ i. omega arith) so_far.put done
 
   abbrev empty_bytes : List ℕ
   empty_bytes = book_bytes (empty_book quotas ids principals)
@@ -120,9 +120,9 @@ module _ (quotas ids principals : List ℕ) where
   unfolding opened
   wrong_length s other = (rw (ne_eqb (length s) book_size other), rw (ne_eqb (length s) book_size other))
 
-  pub not-given : (s : List ℕ) → length s ≡ book_size → are_given quotas ids principals ≡ false → Opened s 103 s
+  pub not_given : (s : List ℕ) → length s ≡ book_size → are_given quotas ids principals ≡ false → Opened s 103 s
   unfolding opened
-  not-given s size bad = (rw (eq-eqb (length s) book_size size, bad), rw (eq-eqb (length s) book_size size, bad))
+  not_given s size bad = (rw (eq-eqb (length s) book_size size, bad), rw (eq-eqb (length s) book_size size, bad))
 
   pub given : (s after : List ℕ) → length s ≡ book_size → are_given quotas ids principals ≡ true → after ≡ empty_bytes → Opened s 0 after
   unfolding opened

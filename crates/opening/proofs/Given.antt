@@ -69,12 +69,12 @@ module _ (quotas ids principals : List ℕ) where
     too_many many = sym (rw (eq-eqb (length quotas) 16 sixteen, lt-leb (quota_sum settings) 512 (rw whole many)))
 
     module _ (few : sum ≤ 512) where
-      by-ids : are_given quotas ids principals ≡ (good_ids && good_principals)
+      by_ids : are_given quotas ids principals ≡ (good_ids && good_principals)
       unfolding are_given
-      by-ids = rw (eq-eqb (length quotas) 16 sixteen, le-leb (quota_sum settings) 512 (rw whole few))
+      by_ids = rw (eq-eqb (length quotas) 16 sixteen, le-leb (quota_sum settings) 512 (rw whole few))
 
-      pub not-32 : (length ids ≡ 32 → ⊥) → false ≡ are_given quotas ids principals
-      not-32 other = sym (by-ids ∙ rw (ne_eqb (length ids) 32 other))
+      pub not_32 : (length ids ≡ 32 → ⊥) → false ≡ are_given quotas ids principals
+      not_32 other = sym (by_ids ∙ rw (ne_eqb (length ids) 32 other))
 
       module _ (size : length ids ≡ 32) where
         all_ids : good_ids ≡ all_at is_name_character 32 ids 0
@@ -82,18 +82,18 @@ module _ (quotas ids principals : List ℕ) where
             rw (eq-eqb (length ids) 32 size)
             (sym (all_inside is_name_character 32 ids 0 (omega arith) ∙ ap (all_of is_name_character) (take_all 32 ids (omega arith))))
 
-        pub not-ids : all_at is_name_character 32 ids 0 ≡ false → false ≡ are_given quotas ids principals
-        not-ids bad = sym (by-ids ∙ ap (λ (b : Bool). b && good_principals) (all_ids ∙ bad))
+        pub not_ids : all_at is_name_character 32 ids 0 ≡ false → false ≡ are_given quotas ids principals
+        not_ids bad = sym (by_ids ∙ ap (λ (b : Bool). b && good_principals) (all_ids ∙ bad))
 
         module _ (right : all_at is_name_character 32 ids 0 ≡ true) where
-          by-principals : are_given quotas ids principals ≡ good_principals
-          by-principals = by-ids ∙ ap (λ (b : Bool). b && good_principals) (all_ids ∙ right)
+          by_principals : are_given quotas ids principals ≡ good_principals
+          by_principals = by_ids ∙ ap (λ (b : Bool). b && good_principals) (all_ids ∙ right)
 
           pub not_16 : (length principals ≡ 16 → ⊥) → false ≡ are_given quotas ids principals
-          not_16 other = sym (by-principals ∙ rw (ne_eqb (length principals) 16 other))
+          not_16 other = sym (by_principals ∙ rw (ne_eqb (length principals) 16 other))
 
-          pub all-principals : length principals ≡ 16 → are_principals settings 0 settings ≡ are_given quotas ids principals
-          all-principals count = sym (by-principals ∙ rw (eq-eqb (length principals) 16 count))
+          pub all_principals : length principals ≡ 16 → are_principals settings 0 settings ≡ are_given quotas ids principals
+          all_principals count = sym (by_principals ∙ rw (eq-eqb (length principals) 16 count))
 
   -- whether the one that tenant t names, names none, decides
   pub tenant_named : (t : ℕ) → t < 16 → ((first_setting quotas ids principals t).principal ≡ 0 → ⊥) → (first_setting quotas ids principals t).principal ≤ 16

@@ -40,13 +40,13 @@ all_part test n s at all =
 
 module _ (quotas ids principals : List ℕ) where
   module _ (long : length ids ≡ 32) (all : all_of is_name_character ids ≡ true) where
-    server-given : (t : ℕ) → t < 16 → is_server_id (number_at 2 ids (2 * t)) ≡ true
-    server-given t h =
+    server_given : (t : ℕ) → t < 16 → is_server_id (number_at 2 ids (2 * t)) ≡ true
+    server_given t h =
         name_at_lem 2 ids (2 * t) (all_at_place is_name_character 2 ids (2 * t) (omega arith) (all_part is_name_character 2 ids (2 * t) all))
 
-    setting-given : (t : ℕ) → t < 16 → is_setting (first_setting quotas ids principals t) ≡ true
+    setting_given : (t : ℕ) → t < 16 → is_setting (first_setting quotas ids principals t) ≡ true
     unfolding is_setting is_days
-    setting-given t h = server-given t h
+    setting_given t h = server_given t h
 
 -- what is given makes a good book
 given_good : (quotas ids principals : List ℕ) → are_given quotas ids principals ≡ true → Good (empty_book quotas ids principals)
@@ -71,7 +71,7 @@ given_good quotas ids principals given = record {
 
     each : (t : ℕ) → t < 16 → is_setting (get_or (empty_book quotas ids principals).settings t no_setting) ≡ true
     each t h =
-        rw (each_is (first_setting quotas ids principals) 16 t no_setting h) (setting-given quotas ids principals long (search (and_first, and_second)) t h)
+        rw (each_is (first_setting quotas ids principals) 16 t no_setting h) (setting_given quotas ids principals long (search (and_first, and_second)) t h)
 
 -- what opening answers with a book was not refused
 written : (size given : Bool) (bytes book : List ℕ) → demand size (refusal 101) (demand given (refusal 103) (text bytes)) ≡ text book

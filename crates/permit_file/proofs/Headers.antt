@@ -2,12 +2,9 @@
 -- Assumes nothing.
 use mathlib.Core.Path.{◌≡◌, refl, sym, ap, ◌∙◌}
 use mathlib.Core.Bool.{true}
-use mathlib.Core.List.{List, [], ◌∷◌}
-use mathlib.Core.Logic.{⊎_elim}
+use mathlib.Core.List.{List}
 use Prim.Native.Nat.{ℕ, ◌≤◌}
 use native.Mathlib.Omega.{arith}
-use denote.Enum.Declared.{tag_of}
-use types.Run.{OneOf}
 use lib.Dec.{leb, ltb}
 use borrow.Author.Tests.{le-leb}
 use lib.ListN.{length, take, length-take, length-drop}
@@ -20,7 +17,6 @@ use Rattle.file_lines.specs.Lines.{line_ends, ends_at, line_found}
 use Rattle.file_lines.specs.Dated.{is_below, is_dated}
 use Rattle.file_lines.specs.declared.LineFound.{LineFound}
 use Rattle.file_lines.specs.declared.LineFound.TheVariants as found
-use Rattle.file_lines.specs.contracts.LineFound.{the_type}
 use Rattle.permit_file.specs.File.{cursor, header_rest, is_header, first_place, open_of}
 use Rattle.permit_file.specs.declared.Opened.{Opened}
 use Rattle.permit_file.specs.declared.Opened.TheVariants.{At, Refused}
@@ -70,7 +66,7 @@ by_first file good =
     (λ runs. rw (good, on, runs)))
 
 -- the other two answers open the file
-pub not_end : (f : LineFound) → OneOf (0 ∷ 1 ∷ []) (tag_of the_type f) → opens f ≡ At (cursor first_place)
+pub not_end : (f : LineFound) → (f ≡ found.End → ⊥) → opens f ≡ At (cursor first_place)
 not_end (found.Line end) others = refl
 not_end found.Unended others = refl
-not_end found.End others = absurd (⊎_elim (λ e. omega (arith, e)) (λ e. omega (arith, e)) others)
+not_end found.End others = absurd (others refl)

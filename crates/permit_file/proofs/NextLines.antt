@@ -28,7 +28,7 @@ line_found_lem size place end found.End made = cc
 
 module _ (file : List ℕ) (place : ℕ) where
   pub line_bounds : (end : ℕ) → next_line file place ≡ next.Line end → (place ≤ end) × (end + 2 ≤ length file)
-  line_bounds end made = (walks.line-bounds file place end (line_found_lem (length file) place end (line_found file place) made)).1
+  line_bounds end made = (walks.line_bounds file place end (line_found_lem (length file) place end (line_found file place) made)).1
 
   module _ (read : List ℕ → Line) where
     -- what a step gives, by its head

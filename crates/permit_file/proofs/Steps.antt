@@ -18,7 +18,7 @@ use Rattle.file_lines.proofs.LineEnds.{begins_first, next-within}
 use Rattle.file_lines.proofs.PartEnds.{ends_with_bytes}
 use Rattle.permit_file.specs.File.{cursor, onward, step_by, step_with, step_of, is_end, next_place}
 use Rattle.permit_file.specs.Steps.{place_after, PlacesRise, EndStays, FileEnds}
-use Rattle.permit_file.specs.declared.Step.TheVariants.{Record, Refused, End}
+use Rattle.permit_file.specs.declared.Step.TheVariants.{Refused, End}
 
 onward_place : (l : Line) (place : ℕ) → next_place (onward l (cursor place)) ≡ place
 onward_place (line.Record r) place = refl

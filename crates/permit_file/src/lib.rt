@@ -1,4 +1,6 @@
 // A permit file, PERMIT.TXT: opening it, and reading it line by line.
+#![tactic(auto)]
+
 ghost use Rattle.std.specs.Prelude.{◌≡◌};
 ghost use Rattle.permit_file.specs.File.{is_header, onward, step_with, step_of, open_of, open_number};
 ghost use Rattle.permit_file.specs.NextLine.{next_line};

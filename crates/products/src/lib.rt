@@ -1,4 +1,6 @@
 // The product list, PRODUCTS.TXT: how a ship's cell stands against it.
+#![tactic(auto)]
+
 ghost use Rattle.std.specs.Prelude.{◌≡◌};
 ghost use Rattle.product_names.specs.Repeats.{repeats};
 ghost use Rattle.products.specs.Answers.{is_ships, is_behind, standing_by, names_of, standing_of, standing_number, standing_code};

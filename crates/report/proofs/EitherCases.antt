@@ -11,7 +11,6 @@ use Rattle.text.proofs.Raising.{same_length}
 use Rattle.text.proofs.TextsAt.{part_of_part, same_byte}
 use Rattle.cell_permit.specs.CellPermit.{ship_words}
 use Rattle.cell_permit.specs.EitherCase.{CaseAlone}
-use Rattle.cell_permit.specs.Line.{read_with}
 use Rattle.cell_permit.specs.declared.Line.{Line}
 use Rattle.cell_permit.specs.declared.Line.TheVariants as line
 use Rattle.cell_permit.proofs.EitherCases.{read_either_case, ship_either_case}
@@ -24,7 +23,7 @@ use Rattle.permit_file.specs.declared.Step.TheVariants as step
 use Rattle.permit_file.proofs.EitherCases.{open_either_case, steps_alike}
 use Rattle.permit_file.specs.Answers.{following, answers_from, enc_answers}
 use Rattle.report.specs.LookThrough.{is_first_line, hw_of, today_of, days_of, file_of, start_number, answers_of, report}
-use Rattle.report.specs.EitherCase.{read_for, place_of, InputCaseAlone, ReportEitherCase}
+use Rattle.report.specs.EitherCase.{read_for, InputCaseAlone, ReportEitherCase}
 
 -- what follows a step goes by the next place alone
 follow_alike : (from other : ℕ → List Line) (x : Step) → from (next_place x) ≡ other (next_place x) → following from x ≡ following other x

@@ -1,7 +1,9 @@
 // Runs the published vectors of Blowfish (its author's 34 pairs, and his series of key lengths) and of CRC-32; `stdout` has what they must give.
+#![tactic(auto)]
+
 ghost use Rattle.std.specs.Prelude.{◌≤◌};
 
-use libc::STDOUT_FILENO;
+use std::io;
 
 const KEYS: [u64; 34] = [
     0x0000000000000000,
@@ -86,85 +88,79 @@ const SERIES: [u8; 24] = [
 const SERIES_CLEAR: u64 = 0xfedcba9876543210;
 
 // Writes a number in sixteen hex characters, or in its last eight.
-fn show(x: u64, skip: usize)
+fn show(to: &impl Print, x: u64, skip: usize) -> io::Result<()>
     requires { skip ≤ 16 }
 {
     let mut line = [b'0'; 16];
     let mut rest = x;
-    let mut i: usize = 16;
-    while 0 < i {
-        i -= 1;
-        line[i] = text::characters::hex_character((rest % 16) as u8);
+    for character in line.iter_mut().rev() {
+        *character = text::characters::hex_character((rest % 16) as u8);
         rest /= 16;
     }
-    io::write_all(STDOUT_FILENO, &line[skip..]);
+    to.write_all(&line[skip..])
 }
 
-fn blank() {
-    io::write_all(STDOUT_FILENO, b" ");
+fn blank(to: &impl Print) -> io::Result<()> {
+    to.print(' ')
 }
 
-fn end_line() {
-    io::write_all(STDOUT_FILENO, b"\n");
+fn end_line(to: &impl Print) -> io::Result<()> {
+    to.print('\n')
 }
 
 // Key, clear block and enciphered block; the clear one is what deciphering gives back.
-fn pair(key: u64, clear: u64) {
+fn pair(to: &impl Print, key: u64, clear: u64) -> io::Result<()> {
     let mut words = [0u32; 1042];
     blowfish::key_schedule(&octets::numbers::bytes64(key), &mut words);
     let enciphered = blowfish::encipher(&words, clear);
-    show(key, 0);
-    blank();
-    show(blowfish::decipher(&words, enciphered), 0);
-    blank();
-    show(enciphered, 0);
-    end_line();
+    show(to, key, 0)?;
+    blank(to)?;
+    show(to, blowfish::decipher(&words, enciphered), 0)?;
+    blank(to)?;
+    show(to, enciphered, 0)?;
+    end_line(to)
 }
 
-fn pairs() {
-    let keys = KEYS;
-    let clear = CLEAR;
-    let mut i: usize = 0;
-    while i < 34 {
-        pair(keys[i], clear[i]);
-        i += 1;
+fn pairs(to: &impl Print) -> io::Result<()> {
+    for (key, clear) in KEYS.iter().zip(CLEAR.iter()) {
+        pair(to, *key, *clear)?;
     }
+    Ok(())
 }
 
 // The key's length and the enciphered block; or the number of the refusal, as for the published keys of 1 to 3 bytes.
-fn under(key: &[u8]) {
+fn under(to: &impl Print, key: &[u8]) -> io::Result<()> {
     let mut words = [0u32; 1042];
     let number = blowfish::key_schedule(key, &mut words);
-    io::print_decimal(STDOUT_FILENO, key.len() as u64);
-    blank();
+    to.print(key.len())?;
+    blank(to)?;
     if number == 0 {
-        show(blowfish::encipher(&words, SERIES_CLEAR), 0);
+        show(to, blowfish::encipher(&words, SERIES_CLEAR), 0)?;
     } else {
-        io::print_decimal(STDOUT_FILENO, number as u64);
+        to.print(number)?;
     }
-    end_line();
+    end_line(to)
 }
 
-fn series() {
+fn series(to: &impl Print) -> io::Result<()> {
     let key = SERIES;
-    let mut n: usize = 1;
-    while n <= 24 {
-        under(&key[..n]);
-        n += 1;
+    for n in 1..=key.len() {
+        under(to, &key[..n])?;
     }
+    Ok(())
 }
 
-fn check(bytes: &[u8]) {
-    show(crc32::crc32(bytes) as u64, 8);
-    end_line();
+fn check(to: &impl Print, bytes: &[u8]) -> io::Result<()> {
+    show(to, u64::from(crc32::crc32(bytes)), 8)?;
+    end_line(to)
 }
 
-fn main() {
-    pairs();
-    series();
-    check(b"123456789");
-    check(b"");
-    check(b"a");
-    check(b"abc");
-    check(b"The quick brown fox jumps over the lazy dog");
+fn main(rt: HostRuntime) -> io::Result<()> {
+    pairs(&rt)?;
+    series(&rt)?;
+    check(&rt, b"123456789")?;
+    check(&rt, b"")?;
+    check(&rt, b"a")?;
+    check(&rt, b"abc")?;
+    check(&rt, b"The quick brown fox jumps over the lazy dog")
 }

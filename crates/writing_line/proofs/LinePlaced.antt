@@ -79,8 +79,8 @@ module _ (words : List ℕ) (cell : Cell) (s : List ℕ) (room : 76 ≤ length s
       let dated : length (date cell) ≡ 8 = z.date_size in
       let one : length (key_part words cell.key1) ≡ 16 = z.one_size in
       let two : length (key_part words cell.key2) ≡ 16 = z.two_size in
-      let two-parts : length (name cell ++ date cell) ≡ 16 = simp length-append (omega arith) in
-      let three-parts : length ((name cell ++ date cell) ++ key_part words cell.key1) ≡ 32 = simp length-append (omega arith) in
+      let two_parts : length (name cell ++ date cell) ≡ 16 = simp length-append (omega arith) in
+      let three_parts : length ((name cell ++ date cell) ++ key_part words cell.key1) ≡ 32 = simp length-append (omega arith) in
       let f₂ : s₂ ≡ placed 0 (name cell ++ date cell) s = joined 0 8 (name cell) (date cell) s s₁ s₂ e₁ e₂ (omega arith) (omega arith) in
       let f₃ : s₃ ≡ placed 0 ((name cell ++ date cell) ++ key_part words cell.key1) s =
       joined 0 16 (name cell ++ date cell) (key_part words cell.key1) s s₂ s₃ f₂ e₃ (omega arith) (omega arith) in

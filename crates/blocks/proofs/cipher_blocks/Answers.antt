@@ -1,6 +1,5 @@
 -- `blocks::cipher_blocks` meets its contract. The invariant: the first i blocks are worked, and those after them are as they were.
 use mathlib.Core.Path.{◌≡◌, refl, ap, ◌∙◌}
-use Prim.Native.Nat.{◌-◌}
 use native.Mathlib.Omega.{arith}
 use Rattle.blocks.specs.Blocks.{blocks_of_both, blocks_put}
 use Rattle.blocks.specs.Fours.{cipher_by}

@@ -1,6 +1,6 @@
 -- `blocks::put_blocks` meets its contract. The invariant: i blocks are put.
 use mathlib.Core.Path.{◌≡◌, refl, ap, sym, ◌∙◌}
-use Prim.Native.Nat.{ℕ, ◌+◌, ◌-◌, ◌*◌}
+use Prim.Native.Nat.{ℕ, ◌+◌, ◌*◌}
 use native.Mathlib.Numerals.{add-one}
 use native.Mathlib.Omega.{arith}
 use lib.ListN.{length, get_or}
@@ -19,7 +19,7 @@ loop-i-preserved c =
     let args = c.args in
     let i = c.loop-i.i in
     let put = c.put_block in
-    let all : put.new.0 ≡ all_put args.blocks.now args.at (i + 1) args.out.now =
+    let all : put.new.out ≡ all_put args.blocks.now args.at (i + 1) args.out.now =
     put.ensures
     ∙ ap (block_put (args.at + 8 * i) (get_or args.blocks.now i 0)) c.loop-i.invariant.2
     ∙ ap (λ (n : ℕ). all_put args.blocks.now args.at n args.out.now) (sym (add-one i)) in

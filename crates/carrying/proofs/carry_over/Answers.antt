@@ -10,8 +10,8 @@ use Rattle.text.specs.Texts.{placed}
 use Rattle.layout.specs.Layout.{one, is_book_by, is_book}
 use Rattle.carrying.specs.OldForm.{old_form}
 use Rattle.carrying.proofs.OldForms.{form_facts}
-use Rattle.carrying.proofs.Wider.{wider-is}
-use Rattle.carrying.proofs.OldBooks.{old_frame, old-judged, is_damaged, no_form, wrong_size, is_carried}
+use Rattle.carrying.proofs.Wider.{wider_is}
+use Rattle.carrying.proofs.OldBooks.{old_frame, old_judged, is_damaged, no_form, wrong_size, is_carried}
 use Rattle.carrying.proofs.carry_over.Goals as goal
 use Rattle.carrying.proofs.carry_over.Goals.{After-is_book, Else-not-is_old_form}
 
@@ -36,7 +36,7 @@ put_book-requires c = (formed (goal.at.put_book-requires c).Else-not-is_old_form
 judged : (c : After-is_book) → let form = (goal.at.After-is_book c).Else-not-is_old_form in c.is_book.result ≡ is_book_by one (book form)
 judged c =
     let form = (goal.at.After-is_book c).Else-not-is_old_form in
-    c.is_book.ensures ∙ ap is_book c.put_book.ensures ∙ old-judged (book form) (below form) (formed form)
+    c.is_book.ensures ∙ ap is_book c.put_book.ensures ∙ old_judged (book form) (below form) (formed form)
 
 pub returns-then-not-is_book : goal.returns-then-not-is_book
 returns-then-not-is_book c = is_damaged _ _ (sym (judged (goal.at.returns-then-not-is_book c).After-is_book) ∙ c.if-not-is_book.true)
@@ -53,4 +53,4 @@ returns c =
     is_carried _ _ undamaged c.if-new-ne-BOOK_SIZE.false _
     (c.put_text.ensures
     ∙ ap (λ (t : List ℕ). placed 0 t lent)
-    (c.put_book.ensures ∙ wider-is (book form) (below form) (form_facts (book form) (formed form)) (old_frame (book form) undamaged)))
+    (c.put_book.ensures ∙ wider_is (book form) (below form) (form_facts (book form) (formed form)) (old_frame (book form) undamaged)))

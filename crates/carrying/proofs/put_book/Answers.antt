@@ -10,7 +10,7 @@ use Rattle.text.specs.Texts.{placed}
 use Rattle.text.proofs.PlacedTexts.{length-placed}
 use Rattle.layout.specs.Layout.{book_size, used_length}
 use Rattle.carrying.proofs.OldForms.{Formed, form_facts}
-use Rattle.carrying.proofs.Puts.{wider-put}
+use Rattle.carrying.proofs.Puts.{wider_put}
 use Rattle.carrying.proofs.put_book.Goals as goal
 use Rattle.carrying.proofs.put_book.Goals.{After-old_count, Start}
 
@@ -23,7 +23,7 @@ module _ (c : After-old_count) where
   book = start.args.book.now
 
   formed : Formed book
-  formed = form_facts book start.pre.0
+  formed = form_facts book start.requires.0
 
   below : Below 256 book
   below k = omega (arith, c.type_inv.book k)
@@ -37,8 +37,8 @@ overflow_add-old_count c = omega (arith, c.old_count.ensures, (formed (goal.at.o
 pub overflow_cast-old_count : goal.overflow_cast-old_count
 overflow_cast-old_count c = omega (arith, c.old_count.ensures, (formed (goal.at.overflow_cast-old_count c).After-old_count).few)
 
-pub slice_bounds-put_text-end : goal.slice_bounds-put_text-end
-slice_bounds-put_text-end c = omega (arith, (formed c.before.before.before.before.before.before.before.before.before.before.before.before).size)
+pub slice_bounds-put_text-end-3 : goal.slice_bounds-put_text-end-3
+slice_bounds-put_text-end-3 c = omega (arith, (formed (goal.at.slice_bounds-put_text-end-3 c).After-old_count).size)
 
 pub put_records-requires : goal.put_records-requires
 put_records-requires c =
@@ -53,7 +53,7 @@ put_records-requires c =
 pub returns : goal.returns
 returns c =
     let counted = (goal.at.returns c).After-old_count in
-    wider-put (book counted) (below counted) (formed counted)
+    wider_put (book counted) (below counted) (formed counted)
     (start counted).args.new.now c.put_text.new.out c.put_text-2.new.out c.put_text-3.new.out _
     (start counted).requires.1
     c.put_text.ensures

@@ -11,7 +11,7 @@ use Rattle.text.specs.Texts.{part, placed}
 use Rattle.layout.specs.Layout.{one, record_size_by, record_count_by, record_place_by, record_place, zeros}
 use Rattle.judging.proofs.Parts.{part_lent_lem}
 use Rattle.carrying.proofs.OldForms.{Formed, form_facts}
-use Rattle.carrying.proofs.Puts.{records_none, records-next, records-all}
+use Rattle.carrying.proofs.Puts.{records_none, records_next, records_all}
 use Rattle.carrying.proofs.put_records.Goals as goal
 use Rattle.carrying.proofs.put_records.Goals.{After-old_count-n, In-loop-i, Start}
 
@@ -24,7 +24,7 @@ module _ (c : After-old_count-n) where
   book = start.args.book.now
 
   formed : Formed book
-  formed = form_facts book start.pre.0
+  formed = form_facts book start.requires.0
 
   below : Below 256 book
   below k = omega (arith, c.type_inv.book k)
@@ -41,7 +41,7 @@ module _ (c : In-loop-i) where
   i = c.loop-i.i
 
   more : i < record_count_by one (book counted)
-  more = omega (arith, counted.old-count.ensures, c.loop-i-test.true)
+  more = omega (arith, counted.old_count-n.ensures, c.loop-i-test.true)
 
   inside : record_place_by one i + record_size_by one ≤ length (book counted)
   inside = omega (arith, more, (formed counted).size, (formed counted).few)
@@ -57,13 +57,13 @@ pub put_record-requires : goal.put_record-requires
 put_record-requires c =
     let turn = (goal.at.put_record-requires c).In-loop-i in (
       ap length (lent turn) ∙ part_length (record_size_by one) (book (counted turn)) (record_place_by one (i turn)) (inside turn),
-      omega (arith, more turn, (formed (counted turn)).few, c.loop-i.invariant.put.same, (start (counted turn)).pre.1),
+      omega (arith, more turn, (formed (counted turn)).few, c.loop-i.invariant.put.same, (start (counted turn)).requires.1),
     )
 
 pub loop-i-preserved : goal.loop-i-preserved
 loop-i-preserved c =
     let turn = (goal.at.loop-i-preserved c).In-loop-i in
-    records-next (book (counted turn)) (below (counted turn)) (formed (counted turn)) c.loop-i.invariant (more turn) _
+    records_next (book (counted turn)) (below (counted turn)) (formed (counted turn)) c.loop-i.invariant (more turn) _
     (c.put_record.ensures ∙ ap (λ (l : List ℕ). placed (record_place (i turn)) (l ++ zeros 4) c.loop-i.new) (lent turn))
 
 pub shape_of-new : goal.shape_of-new
@@ -72,4 +72,4 @@ shape_of-new c = c.loop-i.invariant.put.same
 pub returns : goal.returns
 returns c =
     let counted = (goal.at.returns c).After-old_count-n in
-    records-all (book counted) (below counted) (formed counted) c.loop-i.invariant (omega (arith, c.old_count-n.ensures, c.loop-i-test.false))
+    records_all (book counted) (below counted) (formed counted) c.loop-i.invariant (omega (arith, c.old_count-n.ensures, c.loop-i-test.false))

@@ -2,10 +2,8 @@
 use mathlib.Core.Path.{sym, ◌∙◌}
 use native.Mathlib.Omega.{arith}
 use Rattle.cell_file.proofs.Calls.{carried_says}
-use Rattle.cell_file.proofs.PartCalls.{ part_no_key, part_too_long, part-not-carried, part_no_room, part_refused, few-fit, part-kept, left-fits, part-wrote,
+use Rattle.cell_file.proofs.PartCalls.{part_no_key, part_too_long, part_not_carried, part_no_room, part_refused, few_fit, part_kept, left_fits, part_wrote}
 use Rattle.cell_file.proofs.encipher_part.Goals as goal
-
-}
 
 pub returns-then-key-gt1099511627775 : goal.returns-then-key-gt1099511627775
 returns-then-key-gt1099511627775 c = part_refused _ 103 _ (part_no_key _ _ _ _ _ (omega arith))
@@ -16,7 +14,7 @@ returns-then-part-gt-MOST c = part_refused _ 103 _ (part_too_long _ _ _ _ _ (ome
 pub returns-then-not-is_carried : goal.returns-then-not-is_carried
 returns-then-not-is_carried c =
     part_refused _ 103 _
-    (part-not-carried _ _ _ _ _ (omega arith) (omega arith) (sym c.is_carried.ensures ∙ c.if-not-is_carried.true))
+    (part_not_carried _ _ _ _ _ (omega arith) (omega arith) (sym c.is_carried.ensures ∙ c.if-not-is_carried.true))
 
 pub returns-then-out-whole : goal.returns-then-out-whole
 returns-then-out-whole c =
@@ -26,13 +24,13 @@ returns-then-out-whole c =
 pub gathered-requires : goal.gathered-requires
 gathered-requires c =
     let says = carried_says _ _ (sym c.is_carried.ensures ∙ c.if-not-is_carried.false) in
-    few-fit _ _ c.args.part.now says.0 says.1 (omega arith)
+    few_fit _ _ c.args.part.now says.0 says.1 (omega arith)
 
 pub returns-then-whole-eq0 : goal.returns-then-whole-eq0
 returns-then-whole-eq0 c =
     let carried = sym c.is_carried.ensures ∙ c.if-not-is_carried.false in
     let says = carried_says _ _ carried in
-    part-kept _ _ _ says.0 says.1 (omega arith) _ _ _ (omega arith) (omega arith) carried c.gathered.ensures
+    part_kept _ _ _ says.0 says.1 (omega arith) _ _ _ (omega arith) (omega arith) carried c.gathered.ensures
 
 pub put_part-requires : goal.put_part-requires
 put_part-requires c =
@@ -46,11 +44,11 @@ overflow_sub-rest c =
 pub gathered-requires-2 : goal.gathered-requires-2
 gathered-requires-2 c =
     let says = carried_says _ _ (sym c.is_carried.ensures ∙ c.if-not-is_carried.false) in
-    left-fits _ _ c.args.part.now says.0 says.1 (omega arith)
+    left_fits _ _ c.args.part.now says.0 says.1 (omega arith)
 
 pub returns : goal.returns
 returns c =
     let carried = sym c.is_carried.ensures ∙ c.if-not-is_carried.false in
     let says = carried_says _ _ carried in
-    part-wrote _ _ _ says.0 says.1 (omega arith) _ _ _ _ _ (omega arith) (omega arith) carried (omega arith)
+    part_wrote _ _ _ says.0 says.1 (omega arith) _ _ _ _ _ (omega arith) (omega arith) carried (omega arith)
     c.cell_words.ensures c.put_part.ensures c.gathered-2.ensures

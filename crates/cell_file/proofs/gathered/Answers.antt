@@ -1,9 +1,6 @@
 -- `cell_file::gathered` meets its contract. The invariant: the first i bytes of s have been gathered after those of x, and these are fewer than eight.
-use Prim.Native.Nat.{◌-◌}
 use native.Mathlib.Omega.{arith}
 use Rattle.cell_file.proofs.Gathering.{none_yet, seven, one_more, all_gathered}
-use Rattle.cell_file.proofs.gathered.Reads as reads
-use Rattle.cell_file.proofs.gathered.Lts as lts
 use Rattle.cell_file.proofs.gathered.Goals as goal
 
 pub loop-i-init : goal.loop-i-init

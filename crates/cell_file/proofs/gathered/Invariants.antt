@@ -2,8 +2,6 @@
 use Prim.Native.Nat.{◌-◌}
 use lib.ListN.{length}
 use Rattle.cell_file.proofs.Gathering.{Gathered}
-use Rattle.cell_file.proofs.gathered.Reads as reads
-use Rattle.cell_file.proofs.gathered.Lts as lts
 use Rattle.cell_file.proofs.gathered.Given as goal
 
 abbrev pub invariant-loop-i : goal.invariant-loop-i

@@ -1,16 +1,9 @@
 -- `cell_file::is_carried` meets its contract, line by line of its table.
-use mathlib.Core.Path.{◌≡◌}
-use Prim.Native.Nat.{ℕ, ◌<◌}
+use Prim.Native.Nat.{◌<◌}
 use native.Mathlib.Omega.{arith}
 use borrow.Author.Tests.{lt-leb}
 use Rattle.cell_file.specs.Enciphering.{is_carried}
 use Rattle.cell_file.proofs.is_carried.Goals as goal
-
-above_three : (n : ℕ) → (n ≡ 0 → ⊥) → (n ≡ 1 → ⊥) → (n ≡ 2 → ⊥) → (n ≡ 3 → ⊥) → 3 < n
-above_three n a b c d = omega arith
-
-above_seven : (n : ℕ) → 3 < n → (n ≡ 4 → ⊥) → (n ≡ 5 → ⊥) → (n ≡ 6 → ⊥) → (n ≡ 7 → ⊥) → 7 < n
-above_seven n h a b c d = omega arith
 
 pub returns-in-0 : goal.returns-in-0
 unfolding is_carried
@@ -47,8 +40,4 @@ returns-in-7 c = rw c.in-7.is
 -- more than seven
 pub returns-in_default : goal.returns-in_default
 unfolding is_carried
-returns-in_default c =
-    let none = c.in_default.in_default-own.rest in
-    let three = above_three _ none.0.0.0.0.0.0.0.1 none.0.0.0.0.0.0.1 none.0.0.0.0.0.1 none.0.0.0.0.1 in
-    let above = above_seven _ three none.0.0.0.1 none.0.0.1 none.0.1 none.1 in
-    rw (lt-leb c.args.n 7 above)
+returns-in_default c = let above : 7 < c.args.n = omega arith in rw (lt-leb c.args.n 7 above)

@@ -2,7 +2,7 @@
 use mathlib.Core.Path.{sym, ap, ◌∙◌}
 use native.Mathlib.Omega.{arith}
 use Rattle.octets.specs.Numbers.{bytes_of}
-use Rattle.cell_file.proofs.PartCalls.{head_length, head_fits, part-put}
+use Rattle.cell_file.proofs.PartCalls.{head_length, head_fits, part_put}
 use Rattle.cell_file.proofs.put_part.Goals as goal
 
 pub slice_bounds-gathered-length : goal.slice_bounds-gathered-length
@@ -15,7 +15,7 @@ gathered-requires c =
 
 pub returns : goal.returns
 returns c =
-    part-put c.args.n c.args.x c.args.part.now c.requires.0.0 c.requires.0.1 c.requires.1.0
+    part_put c.args.n c.args.x c.args.part.now c.requires.0.0 c.requires.0.1 c.requires.1.0
     (λ i. omega (arith, c.type_inv.part i)) _ c.gathered.ensures _ _ _ _ _ c.requires.1.1
     (c.bytes64.ensures ∙ ap (bytes_of 8) c.encipher-first.ensures)
     c.put_text.ensures

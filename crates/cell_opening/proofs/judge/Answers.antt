@@ -2,23 +2,22 @@
 use mathlib.Core.Path.{refl}
 use native.Mathlib.Omega.{arith}
 use Rattle.cell_opening.proofs.LastBlock.{blocks_say}
-use Rattle.cell_opening.proofs.KeyJudged.{wrongly-padded, padding-fits, other-crc, right_key}
+use Rattle.cell_opening.proofs.KeyJudged.{wrongly_padded, padding_fits, other_crc, right_key}
 use Rattle.cell_opening.proofs.judge.Goals as goal
 
 pub overflow_sub-file : goal.overflow_sub-file
 overflow_sub-file c = omega (arith, (blocks_say c.args.file.now c.requires.0).0)
 
 pub returns-then-n-eq0 : goal.returns-then-n-eq0
-returns-then-n-eq0 c =
-    (
-      wrongly-padded c.args.key c.args.crc c.args.file.now _ c.requires.0 c.cell_words.ensures _ _ _ refl
-          c.decipher_blocks.ensures c.padding_in-n.ensures c.if-n-eq0.true,
-      c.cell_words.ensures,
-    )
+returns-then-n-eq0 c = (
+  wrongly_padded c.args.key c.args.crc c.args.file.now _ c.requires.0 c.cell_words.ensures _ _ _ refl
+      c.decipher_blocks.ensures c.padding_in-n.ensures c.if-n-eq0.true,
+  c.cell_words.ensures,
+)
 
 pub overflow_sub-length : goal.overflow_sub-length
 overflow_sub-length c =
-    let fits = padding-fits c.args.key c.args.crc c.args.file.now _ c.requires.0 c.cell_words.ensures _ _ _ refl
+    let fits = padding_fits c.args.key c.args.crc c.args.file.now _ c.requires.0 c.cell_words.ensures _ _ _ refl
     c.decipher_blocks.ensures c.padding_in-n.ensures c.if-n-eq0.false in
     omega (arith, fits, (blocks_say c.args.file.now c.requires.0).0)
 
@@ -27,17 +26,15 @@ text_crc-requires c =
     (omega (arith, (blocks_say c.args.file.now c.requires.0).1), c.requires.1)
 
 pub returns-then-text_crc-crc : goal.returns-then-text_crc-crc
-returns-then-text_crc-crc c =
-    (
-      other-crc c.args.key c.args.crc c.args.file.now _ c.requires.0 c.cell_words.ensures _ _ _ refl
-          c.decipher_blocks.ensures c.padding_in-n.ensures c.if-n-eq0.false _ c.text_crc.ensures c.if-text_crc-crc.true,
-      c.cell_words.ensures,
-    )
+returns-then-text_crc-crc c = (
+  other_crc c.args.key c.args.crc c.args.file.now _ c.requires.0 c.cell_words.ensures _ _ _ refl
+      c.decipher_blocks.ensures c.padding_in-n.ensures c.if-n-eq0.false _ c.text_crc.ensures c.if-text_crc-crc.true,
+  c.cell_words.ensures,
+)
 
 pub returns : goal.returns
-returns c =
-    (
-      right_key c.args.key c.args.crc c.args.file.now _ c.requires.0 c.cell_words.ensures _ _ _ refl
-          c.decipher_blocks.ensures c.padding_in-n.ensures c.if-n-eq0.false _ c.text_crc.ensures c.if-text_crc-crc.false,
-      c.cell_words.ensures,
-    )
+returns c = (
+  right_key c.args.key c.args.crc c.args.file.now _ c.requires.0 c.cell_words.ensures _ _ _ refl
+      c.decipher_blocks.ensures c.padding_in-n.ensures c.if-n-eq0.false _ c.text_crc.ensures c.if-text_crc-crc.false,
+  c.cell_words.ensures,
+)

@@ -1,17 +1,8 @@
 -- `cell_opening::open_by` meets its contract: the first key that is right is taken, and nothing is written before it is judged.
 use mathlib.Core.Path.{sym, ap₂, subst, ◌∙◌}
-use mathlib.Core.List.{[], ◌∷◌}
-use denote.Enum.Declared.{tag_of}
-use types.Run.{OneOf}
 use Rattle.cell_opening.specs.Judging.{refusal_of}
-use Rattle.cell_opening.specs.declared.Judged.{Judged}
-use Rattle.cell_opening.specs.contracts.Judged.{the_type}
-use Rattle.cell_opening.proofs.Openings.{size_fits, first_opened, second-opened, none-opened}
+use Rattle.cell_opening.proofs.Openings.{NotRight, size_fits, first_opened, second_opened, none_opened}
 use Rattle.cell_opening.proofs.open_by.Goals as goal
-
--- what is left when a key is not right
-abbrev Others : Judged → Type 0
-Others j = OneOf (1 ∷ 2 ∷ []) (tag_of the_type j)
 
 pub judge-first-requires : goal.judge-first-requires
 judge-first-requires c = c.requires.0
@@ -35,11 +26,11 @@ put_opened-requires-in-Right-second c =
 
 pub returns-in-Right-second : goal.returns-in-Right-second
 returns-in-Right-second c =
-    second-opened _ _ _ _ c.requires.0.0 (subst Others c.judge-first.ensures.0 c.in_default.in_default-own.keys2) _ _ _ _
+    second_opened _ _ _ _ c.requires.0.0 (subst NotRight c.judge-first.ensures.0 c.in_default.not-Right) _ _ _ _
     (sym c.judge-second.ensures.0 ∙ c.in-Right-second.is) c.judge-second.ensures.1 c.put_opened-in-Right-second.ensures
 
 pub returns : goal.returns
 returns c =
-    none-opened _ _ _ _ c.requires.0.0 (subst Others c.judge-first.ensures.0 c.in_default.in_default-own.keys2) _ _
-    (subst Others c.judge-second.ensures.0 c.in_default-second.in_default-second-own.keys2)
+    none_opened _ _ _ _ c.requires.0.0 (subst NotRight c.judge-first.ensures.0 c.in_default.not-Right) _ _
+    (subst NotRight c.judge-second.ensures.0 c.in_default-second.not-Right)
     (c.refusal_of.ensures ∙ ap₂ refusal_of c.judge-first.ensures.0 c.judge-second.ensures.0)

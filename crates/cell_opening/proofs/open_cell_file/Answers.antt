@@ -1,6 +1,6 @@
 -- `cell_opening::open_cell_file` meets its contract: what is asked of the values comes first, in its order.
 use native.Mathlib.Omega.{arith}
-use Rattle.cell_opening.proofs.Openings.{file_refused, one_wrong, two_wrong, too_long, no_room, no_length, no_blocks, form_is, by-keys, by_keys_answered}
+use Rattle.cell_opening.proofs.Openings.{file_refused, one_wrong, two_wrong, too_long, no_room, no_length, no_blocks, form_is, by_keys, by_keys_answered}
 use Rattle.cell_opening.proofs.open_cell_file.Goals as goal
 
 pub returns-then-one-gt1099511627775 : goal.returns-then-one-gt1099511627775
@@ -31,5 +31,5 @@ pub returns : goal.returns
 returns c =
     let args = c.args in
     by_keys_answered _ _ _ _ _
-    (by-keys args.file.now args.one args.two args.crc _ (omega arith) (omega arith) (omega arith) (omega arith) (form_is args.file.now (omega arith) c.if-file-ne0.false))
+    (by_keys args.file.now args.one args.two args.crc _ (omega arith) (omega arith) (omega arith) (omega arith) (form_is args.file.now (omega arith) c.if-file-ne0.false))
     c.open_by.ensures

@@ -1,9 +1,8 @@
 -- `cell_opening::text_crc` meets its contract. The invariant: what is left of the text gives what the whole gives.
 use mathlib.Core.Path.{refl}
-use Prim.Native.Nat.{◌-◌}
 use native.Mathlib.Omega.{arith}
 use Rattle.blowfish.specs.Cipher.{decipher_of}
-use Rattle.cell_opening.proofs.TextCrc.{onward-fits, piece-in, all_in}
+use Rattle.cell_opening.proofs.TextCrc.{onward_fits, piece_in, all_in}
 use borrow.Author.Rules.{rules}
 use Rattle.cell_opening.proofs.text_crc.Goals as goal
 
@@ -13,16 +12,15 @@ loop-at-init c = (refl, search rules, search rules, refl)
 pub feed_piece-state-requires : goal.feed_piece-state-requires
 feed_piece-state-requires c =
     let now = c.loop-at in
-    onward-fits (decipher_of c.args.words.now) c.args.file.now c.args.size c.requires.0 now.at now.invariant.0 (omega arith) _ c.lesser.ensures
+    onward_fits (decipher_of c.args.words.now) c.args.file.now c.args.size c.requires.0 now.at now.invariant.0 (omega arith) _ c.lesser.ensures
 
 pub loop-at-preserved : goal.loop-at-preserved
 loop-at-preserved c =
-    let now = c.loop-at in
-    (
+    let now = c.loop-at in (
       omega (arith, now.invariant.0),
       search rules,
       search rules,
-      piece-in (decipher_of c.args.words.now) c.args.file.now c.args.size c.requires.0 now.at now.invariant.0 (omega arith) _ _ _ c.lesser.ensures c.feed_piece-state.ensures now.invariant.3,
+      piece_in (decipher_of c.args.words.now) c.args.file.now c.args.size c.requires.0 now.at now.invariant.0 (omega arith) _ _ _ c.lesser.ensures c.feed_piece-state.ensures now.invariant.3,
     )
 
 pub returns : goal.returns

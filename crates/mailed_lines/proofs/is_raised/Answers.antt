@@ -1,7 +1,6 @@
 -- `mailed_lines::is_raised` meets its contract. The invariant: the bytes before i are none of small letters.
 -- Assumes nothing.
 use mathlib.Core.Path.{sym, ◌∙◌}
-use Prim.Native.Nat.{◌-◌}
 use Rattle.mailed_lines.proofs.Lengths.{raised_start, raised-end, raised-next, raised-wrong}
 use Rattle.mailed_lines.proofs.is_raised.Goals as goal
 

@@ -13,41 +13,29 @@ use Rattle.mended_lines.specs.Giving.{added_said}
 use Rattle.mended_lines.proofs.TwoParts.{same_put, both-fit, both-put, none_put}
 use Rattle.mended_lines.proofs.LineGives.{none_said, some_said, added_sizes}
 use Rattle.mended_lines.proofs.put_added.Goals as goal
-use Rattle.mended_lines.proofs.put_added.Goals.{After-lies_within, After-width, After-width-2, Else-line-eq0, Start}
+use Rattle.mended_lines.proofs.put_added.Goals.{After-lies_within}
 
 -- both list lines, as they were measured
 module _ (within : After-lies_within) where
-  abbrev next_width : After-width-2
-  next_width = (goal.at.After-lies_within within).After-width
-
-  abbrev width : After-width
-  width = next_width.before
-
-  abbrev some : Else-line-eq0
-  some = width.before
-
-  abbrev start : Start
-  start = some.before.before.before.before
-
   abbrev first : List ℕ
-  first = out_said start.args.count start.args.line.now
+  first = out_said within.args.count within.args.line.now
 
   abbrev next : List ℕ
-  next = numeral start.args.next ++ ascii " ECS\n"
+  next = numeral within.args.next ++ ascii " ECS\n"
 
   abbrev first_size : ℕ
-  first_size = width.width.result + length start.args.line.now + 6
+  first_size = within.width.result + length within.args.line.now + 6
 
   abbrev size : ℕ
-  size = first_size + next_width.width2.result + 5
+  size = first_size + within.width-2.result + 5
 
   measured : (first_size ≡ length first) × (size ≡ length (first ++ next))
   measured =
-      added_sizes start.args.count start.args.next start.args.line.now width.width.result next_width.width2.result
-      width.width.ensures next_width.width2.ensures
+      added_sizes within.args.count within.args.next within.args.line.now within.width.result within.width-2.result
+      within.width.ensures within.width-2.ensures
 
-  same : added_said start.args.count start.args.next start.args.line.now ≡ first ++ next
-  same = some_said start.args.count start.args.next start.args.line.now some.if1.left
+  same : added_said within.args.count within.args.next within.args.line.now ≡ first ++ next
+  same = some_said within.args.count within.args.next within.args.line.now within.if-line-eq0.false
 
 pub returns-then-line-eq0 : goal.returns-then-line-eq0
 returns-then-line-eq0 c =
@@ -82,16 +70,16 @@ overflow_add-size-2 c =
 pub overflow_add-at : goal.overflow_add-at
 overflow_add-at c =
     let within = (goal.at.overflow_add-at c).After-lies_within in
-    let args = (start within).args in
+    let args = c.args in
     let fits =
     both-fit args.at (first within) (next within) args.list.now (size within) (measured within).1
     c.lies_within.result c.lies_within.ensures c.if-lies_within.true in
-    record { fits = omega (arith, fits, (measured within).0, (start within).well-formed.0) }
+    record { fits = omega (arith, fits, (measured within).0, c.well_formed.0) }
 
 pub returns-then-lies_within : goal.returns-then-lies_within
 returns-then-lies_within c =
     let within = (goal.at.returns-then-lies_within c).After-lies_within in
-    let args = (start within).args in
+    let args = c.args in
     same_put _ _ (same within) args.at args.list.now (size within) c.put_counted-then-lies_within.new.list
     (both-put args.at (first within) (next within) args.list.now (size within) (measured within).1
     c.lies_within.result c.lies_within.ensures c.if-lies_within.true
@@ -101,7 +89,7 @@ returns-then-lies_within c =
 pub returns-else-lies_within : goal.returns-else-lies_within
 returns-else-lies_within c =
     let within = (goal.at.returns-else-lies_within c).After-lies_within in
-    let args = (start within).args in
+    let args = c.args in
     same_put _ _ (same within) args.at args.list.now (size within) args.list.now
     (none_put args.at (first within) (next within) args.list.now (size within) (measured within).1
     c.lies_within.result c.lies_within.ensures c.if-lies_within.false)

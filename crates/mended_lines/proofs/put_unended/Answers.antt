@@ -1,10 +1,9 @@
 -- `mended_lines::put_unended` meets its contract: :ECS as it is, or added.
 -- Assumes nothing.
 use mathlib.Core.Path.{◌≡◌, refl}
-use mathlib.Core.Bool.{Bool, false, not}
+use mathlib.Core.Bool.{Bool, true, false, not}
 use mathlib.Core.List.{List, ◌++◌}
 use Prim.Native.Nat.{ℕ}
-use borrow.Author.Tests.{not-true, not-false}
 use lib.Dec.{ltb}
 use lib.ListN.{length}
 use Rattle.cell_permit.specs.CellPermit.{line_end}
@@ -17,42 +16,31 @@ use Rattle.mended_lines.proofs.BothPut.{gave_both}
 use Rattle.mended_lines.proofs.MeasuredLines.{left_counted}
 use Rattle.mended_lines.proofs.LineGives.{gives, ecs_shown, added_gives, ecs_gives}
 use Rattle.mended_lines.proofs.put_unended.Goals as goal
-use Rattle.mended_lines.proofs.put_unended.Goals.{After-is_ecs, After-is_raised-case, After-unblanked_length-k, Start, Then-not-is_ecs}
+use Rattle.mended_lines.proofs.put_unended.Goals.{After-is_ecs, After-is_raised-case, Then-not-is_ecs}
 
 -- what was told of the line
 module _ (told : After-is_ecs) where
-  abbrev left : After-unblanked_length-k
-  left = (goal.at.After-is_ecs told).After-slice_known-2-1
-
-  abbrev start : Start
-  start = left.before.before.before.before
-
   abbrev line : List ℕ
-  line = start.args.line.now
+  line = told.args.line.now
 
   shown : (test : Bool) → told.is_ecs.result ≡ test → is_ecs (unblanked line) ≡ test
   shown test is =
-      ecs_shown line left.unblanked-length.result left.unblanked-length.ensures
+      ecs_shown line told.unblanked_length-k.result told.unblanked_length-k.ensures
       told.is_ecs.result test told.is_ecs.ensures is
 
 -- what it gives where it is not :ECS
 module _ (test : Then-not-is_ecs) where
-  abbrev other : After-is_ecs
-  other = (goal.at.Then-not-is_ecs test).After-is_ecs
-
-  added : unended_gives (start other).args.count (start other).args.next (line other) ≡ gives (ecs ++ line_end) (added_said (start other).args.count (start other).args.next (line other)) false
-  added = added_gives (start other).args.count (start other).args.next (line other) (shown other false (not-true _ test.if-not-is_ecs.taken))
+  added : unended_gives test.args.count test.args.next test.args.line.now
+      ≡ gives (ecs ++ line_end) (added_said test.args.count test.args.next test.args.line.now) false
+  added = added_gives test.args.count test.args.next test.args.line.now (shown (goal.at.Then-not-is_ecs test).After-is_ecs false test.if-not-is_ecs.true)
 
 -- and where it is
 module _ (raised : After-is_raised-case) where
-  abbrev ended : After-is_ecs
-  ended = (goal.at.After-is_raised-case raised).After-is_ecs
-
-  kept : unended_gives (start ended).args.count (start ended).args.next (line ended)
-      ≡ gives ecs (faults_said false (ltb (left ended).unblanked-length.result (length (line ended))) (not raised.is_raised-case.result) (start ended).args.count) false
+  kept : unended_gives raised.args.count raised.args.next raised.args.line.now
+      ≡ gives ecs (faults_said false (ltb raised.unblanked_length-k.result (length raised.args.line.now)) (not raised.is_raised-case.result) raised.args.count) false
   kept =
-      ecs_gives (start ended).args.count (start ended).args.next (line ended) (length (line ended)) (left ended).unblanked-length.result refl (left ended).unblanked-length.ensures
-      (shown ended _ (not-false _ raised.if-not-is_ecs.left)) raised.is_raised-case.result raised.is_raised-case.ensures
+      ecs_gives raised.args.count raised.args.next raised.args.line.now (length raised.args.line.now) raised.unblanked_length-k.result refl raised.unblanked_length-k.ensures
+      (shown (goal.at.After-is_raised-case raised).After-is_ecs true raised.if-not-is_ecs.false) raised.is_raised-case.result raised.is_raised-case.ensures
 
 pub slice_bounds-left-end : goal.slice_bounds-left-end
 slice_bounds-left-end c =
@@ -60,16 +48,16 @@ slice_bounds-left-end c =
 
 pub returns-then-not-is_ecs : goal.returns-then-not-is_ecs
 returns-then-not-is_ecs c =
-    let test = (goal.at.returns-then-not-is_ecs c).After-put_text-arg-1 in
-    let args = (start (other test)).args in
+    let test = (goal.at.returns-then-not-is_ecs c).Then-not-is_ecs in
+    let args = c.args in
     gave_both _ _ (added test) args.at args.out.now args.list.now
     6 c.put_added.result c.put_text.new.out c.put_added.new.list
     (refl, c.put_text.ensures) c.put_added.ensures
 
 pub returns : goal.returns
 returns c =
-    let raised = (goal.at.returns c).After-put_text-arg-2-1 in
-    let args = (start (ended raised)).args in
+    let raised = (goal.at.returns c).After-is_raised-case in
+    let args = c.args in
     gave_both _ _ (kept raised) args.at args.out.now args.list.now
     4 c.put_faults.result c.put_text-2.new.out c.put_faults.new.list
     (refl, c.put_text-2.ensures) c.put_faults.ensures

@@ -6,7 +6,6 @@ use mathlib.Core.List.{List}
 use Prim.Native.Nat.{ℕ, ◌+◌, ◌<◌, ◌^◌}
 use native.Mathlib.Omega.{arith}
 use borrow.Author.Rules.{rules}
-use borrow.Author.Tests.{not-false}
 use lib.ListN.{length}
 use Rattle.mended_lines.specs.declared.Places.{Places}
 use Rattle.mending.specs.Mending.{mended_of, is_mended}
@@ -14,33 +13,30 @@ use Rattle.mending.specs.Walking.{fits, sizes_of, Walkable}
 use Rattle.mending.proofs.HeaderTexts.{ends_rise}
 use Rattle.mending.proofs.Mends.{room_of, mends_12, mends_108, header-taken, may-walk, walked}
 use Rattle.mending.proofs.mend_headed.Goals as goal
-use Rattle.mending.proofs.mend_headed.Goals.{Else-not-has_room, Else-not-is_good, Start}
+use Rattle.mending.proofs.mend_headed.Goals.{Else-not-has_room, Else-not-is_good}
 
 -- a good header
 module _ (on : Else-not-is_good) where
-  abbrev start : Start
-  start = (goal.at.Else-not-is_good on).Start
-
   abbrev file : List ℕ
-  file = start.args.file.now
+  file = on.args.file.now
 
   abbrev out : List ℕ
-  out = start.args.out.now
+  out = on.args.out.now
 
   abbrev list : List ℕ
-  list = start.args.list.now
+  list = on.args.list.now
 
   good : is_mended file ≡ true
-  good = sym on.is_good.ensures ∙ not-false _ on.if-not-is_good.left
+  good = sym on.is_good.ensures ∙ on.if-not-is_good.false
 
   file_short : length file < 2 ^ 63
-  file_short = omega (arith, start.good.0)
+  file_short = omega (arith, on.well_formed.0)
 
   out_short : length out < 2 ^ 63
-  out_short = omega (arith, start.good.1.1.0)
+  out_short = omega (arith, on.well_formed.1.1.0)
 
   list_short : length list < 2 ^ 63
-  list_short = omega (arith, start.good.1.1.1.0)
+  list_short = omega (arith, on.well_formed.1.1.1.0)
 
 pub returns-then-not-is_good : goal.returns-then-not-is_good
 returns-then-not-is_good c =
@@ -48,7 +44,9 @@ returns-then-not-is_good c =
     mends_12 args.file.now args.out.now args.list.now (sym c.is_good.ensures ∙ c.if-not-is_good.true)
 
 pub has_room-requires : goal.has_room-requires
-has_room-requires c = record { file_value = (start (goal.at.has_room-requires c).Else-not-is_good).requires; file_value_2 = (good (goal.at.has_room-requires c).Else-not-is_good, (out_short (goal.at.has_room-requires c).Else-not-is_good, list_short (goal.at.has_room-requires c).Else-not-is_good)) }
+has_room-requires c =
+    let on = (goal.at.has_room-requires c).Else-not-is_good in
+    record { file_value = c.requires; file_value_2 = (good on, (out_short on, list_short on)) }
 
 pub returns-then-not-has_room : goal.returns-then-not-has_room
 returns-then-not-has_room c =
@@ -61,33 +59,35 @@ module _ (fitting : Else-not-has_room) where
   here = (goal.at.Else-not-has_room fitting).Else-not-is_good
 
   fit : fits (sizes_of (mended_of (file here))) (room_of (out here) (list here)) ≡ true
-  fit = sym fitting.has_room.ensures ∙ not-false _ fitting.if-not-has_room.left
+  fit = sym fitting.has_room.ensures ∙ fitting.if-not-has_room.false
 
 pub put_header-at-requires : goal.put_header-at-requires
 put_header-at-requires c =
     let fitting = (goal.at.put_header-at-requires c).Else-not-has_room in
-    let on = here fitting in record { file_value = (start on).pre; takes = header-taken (file on) (start on).args.e (start on).pre (good on) (out on) (list on) (file_short on) (out_short on) (list_short on) (fit fitting) }
+    let on = here fitting in record {
+      file_value = c.requires;
+      takes = header-taken (file on) c.args.e c.requires (good on) (out on) (list on) (file_short on) (out_short on) (list_short on) (fit fitting);
+    }
 
 pub overflow_add-e : goal.overflow_add-e
 overflow_add-e c =
-    let s = start (here (goal.at.overflow_add-e c).Else-not-has_room) in
-    let rise = ends_rise s.args.file.now s.args.e s.pre in
+    let rise = ends_rise c.args.file.now c.args.e c.requires in
     search rules
 
 pub walk-requires : goal.walk-requires
 walk-requires c =
     let fitting = (goal.at.walk-requires c).Else-not-has_room in
     let on = here fitting in
-    let e = (start on).args.e in
+    let e = c.args.e in
     subst (λ (p : Places). Walkable (file on) (e.third + 1) p (room_of (out on) (list on)) c.put_header-at.new.out c.put_header-at.new.list)
     (sym c.put_header-at.ensures.0)
-    (may-walk (file on) e (start on).pre (good on) (out on) (list on) (file_short on) (out_short on) (list_short on) (fit fitting)
+    (may-walk (file on) e c.requires (good on) (out on) (list on) (file_short on) (out_short on) (list_short on) (fit fitting)
     c.put_header-at.new.out c.put_header-at.new.list c.put_header-at.ensures.1.0 c.put_header-at.ensures.1.1)
 
 pub returns : goal.returns
 returns c =
     let fitting = (goal.at.returns c).Else-not-has_room in
     let on = here fitting in
-    walked (file on) (start on).args.e (start on).pre (good on) (out on) (list on) (file_short on) (out_short on) (list_short on) (fit fitting)
+    walked (file on) c.args.e c.requires (good on) (out on) (list on) (file_short on) (out_short on) (list_short on) (fit fitting)
     c.put_header-at.new.out c.put_header-at.new.list c.put_header-at.ensures.1.0 c.put_header-at.ensures.1.1
     c.put_header-at.result c.put_header-at.ensures.0 c.walk.result c.walk.new.out c.walk.new.list c.walk.ensures

@@ -1,35 +1,16 @@
 -- `mending::print` meets its contract: the refusal in words, or what mending gives.
 -- Assumes nothing.
-use mathlib.Core.List.{List}
-use Prim.Native.Nat.{ℕ, ◌≤◌}
+use Prim.Native.Nat.{◌≤◌}
 use native.Mathlib.Omega.{arith}
 use lib.ListN.{length}
 use Rattle.mending.proofs.Mends.{printed_103, printed-done, printed-12, printed-108}
 use Rattle.mending.proofs.print.Goals as goal
-use Rattle.mending.proofs.print.Goals.{After-mend, Start}
+use Rattle.mending.proofs.print.Goals.{After-mend}
 
 -- an input that is not too long, mended
 module _ (mended : After-mend) where
-  abbrev start : Start
-  start = (goal.at.After-mend mended).Start
-
-  abbrev input : List ℕ
-  input = start.args.input.now
-
-  abbrev out : List ℕ
-  out = start.args.out.now
-
-  abbrev list : List ℕ
-  list = start.args.list.now
-
-  abbrev out₁ : List ℕ
-  out₁ = mended.mend.new.out
-
-  abbrev list₁ : List ℕ
-  list₁ = mended.mend.new.list
-
-  small : length input ≤ 65536
-  small = omega (arith, mended.if-input-gt65536.left)
+  small : length mended.args.input.now ≤ 65536
+  small = omega (arith, mended.if-input-gt65536.false)
 
 pub returns-then-input-gt65536 : goal.returns-then-input-gt65536
 returns-then-input-gt65536 c =
@@ -39,16 +20,16 @@ returns-then-input-gt65536 c =
 pub returns-in-Done : goal.returns-in-Done
 returns-in-Done c =
     let m = (goal.at.returns-in-Done c).After-mend in
-    printed-done (input m) (out m) (list m) (small m) (out₁ m) (list₁ m) c.mend.result c.mend.ensures c.in-Done.size c.in-Done.is
+    printed-done c.args.input.now c.args.out.now c.args.list.now (small m) c.mend.new.out c.mend.new.list c.mend.result c.mend.ensures c.in-Done.size c.in-Done.is
 
 pub returns-then-number-eq12 : goal.returns-then-number-eq12
 returns-then-number-eq12 c =
-    let m = (goal.at.returns-then-number-eq12 c).After-out-1 in
-    printed-12 (input m) (out m) (list m) (small m) (out₁ m) (list₁ m) c.mend.result c.mend.ensures
+    let m = (goal.at.returns-then-number-eq12 c).After-mend in
+    printed-12 c.args.input.now c.args.out.now c.args.list.now (small m) c.mend.new.out c.mend.new.list c.mend.result c.mend.ensures
     c.in-Refused.number c.in-Refused.is c.if-number-eq12.true c.put_refusal-then-number-eq12.result c.put_refusal-then-number-eq12.new.list c.put_refusal-then-number-eq12.ensures
 
 pub returns-else-number-eq12 : goal.returns-else-number-eq12
 returns-else-number-eq12 c =
     let m = (goal.at.returns-else-number-eq12 c).After-mend in
-    printed-108 (input m) (out m) (list m) (small m) (out₁ m) (list₁ m) c.mend.result c.mend.ensures
+    printed-108 c.args.input.now c.args.out.now c.args.list.now (small m) c.mend.new.out c.mend.new.list c.mend.result c.mend.ensures
     c.in-Refused.number c.in-Refused.is c.if-number-eq12.false

@@ -1,17 +1,8 @@
 -- `opening::are_principals` meets its contract. The invariant: the tenants before t may name as they do.
 -- Assumes nothing.
 use mathlib.Core.Path.{sym, ◌∙◌}
-use mathlib.Core.Bool.{Bool}
-use mathlib.Core.List.{List}
-use Prim.Native.Nat.{ℕ, ◌-◌}
-use Rattle.tenants.specs.Together.{is_principal}
 use Rattle.layout.proofs.AllFrom.{passed_none, passed-next, passed_all, one_fails, principals_each}
-use Rattle.opening.specs.Opening.{first_setting, first_settings}
 use Rattle.opening.proofs.are_principals.Goals as goal
-
--- whether tenant t may name the principal that it is given
-abbrev test : List ℕ → List ℕ → List ℕ → ℕ → Bool
-test quotas ids principals t = is_principal (first_settings quotas ids principals) t (first_setting quotas ids principals t)
 
 pub loop-t-init : goal.loop-t-init
 loop-t-init c = passed_none _

@@ -1,8 +1,7 @@
 -- `opening::put_settings` meets its contract: the settings before that of tenant t are put.
 -- Assumes nothing.
-use Prim.Native.Nat.{◌-◌}
 use native.Mathlib.Omega.{arith}
-use Rattle.opening.proofs.FirstBook.{settings_none, settings-next, settings-all}
+use Rattle.opening.proofs.FirstBook.{settings_none, settings_next, settings_all}
 use Rattle.opening.proofs.put_settings.Goals as goal
 
 pub loop-t-init : goal.loop-t-init
@@ -16,10 +15,10 @@ first_setting-requires c =
 pub loop-t-preserved : goal.loop-t-preserved
 loop-t-preserved c =
     let now = c.loop-t in
-    settings-next _ _ _ now.invariant (omega arith) _ _ c.first_setting.ensures c.put_setting.ensures
+    settings_next _ _ _ now.invariant (omega arith) _ _ c.first_setting.ensures c.put_setting.ensures
 
 pub shape_of-book : goal.shape_of-book
 shape_of-book c = c.loop-t.invariant.put.same
 
 pub returns : goal.returns
-returns c = settings-all _ _ _ c.loop-t.invariant (omega arith)
+returns c = settings_all _ _ _ c.loop-t.invariant (omega arith)

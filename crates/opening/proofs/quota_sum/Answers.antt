@@ -1,7 +1,6 @@
 -- `opening::quota_sum` meets its contract: sixteen numbers of 16 bits stay far below 2^32.
 -- Assumes nothing.
 use mathlib.Core.Path.{refl}
-use Prim.Native.Nat.{◌-◌}
 use native.Mathlib.Omega.{arith}
 use Rattle.layout.proofs.QuotaSums.{summed_none, summed-next, summed-all}
 use Rattle.opening.proofs.quota_sum.Goals as goal

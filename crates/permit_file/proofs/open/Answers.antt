@@ -20,4 +20,4 @@ returns-in-End c =
 
 pub returns-in_default : goal.returns-in_default
 returns-in_default c =
-    rw (by_first _ (header (goal.at.returns-in_default c).Else-not-is_header), sym c.line_at.ensures) (sym (not_end c.line_at.result c.in_default.in_default-own.keys2))
+    rw (by_first _ (header (goal.at.returns-in_default c).Else-not-is_header), sym c.line_at.ensures) (sym (not_end c.line_at.result c.in_default.not-End))

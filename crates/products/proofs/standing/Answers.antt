@@ -4,14 +4,13 @@ use mathlib.Core.Path.{◌≡◌, sym, ◌∙◌}
 use mathlib.Core.Bool.{Bool, true}
 use mathlib.Core.List.{List}
 use Prim.Native.Nat.{ℕ}
-use borrow.Author.Tests.{not-false}
 use Rattle.products.specs.Answers.{is_ships}
 use Rattle.products.specs.Reading.{Begins, rows_read}
 use Rattle.products.specs.declared.Own.{Own}
 use Rattle.products.specs.declared.rows.RowsRead.TheVariants.{Good}
 use Rattle.products.proofs.Answered.{bad_ships, bad_header, bad-rows, in_order, twice, once}
 use Rattle.products.proofs.standing.Goals as goal
-use Rattle.products.proofs.standing.Goals.{Else-first-eq0, Else-not-is_ships, In-Good-2}
+use Rattle.products.proofs.standing.Goals.{Else-first-eq0, Else-not-is_ships, In-Good}
 
 -- the ship's values are good
 module _ (x : Else-not-is_ships) where
@@ -28,7 +27,7 @@ module _ (x : Else-not-is_ships) where
   update = x.args.update
 
   ships : is_ships name edition update ≡ true
-  ships = sym x.is_ships.ensures ∙ not-false _ x.if-not-is_ships.left
+  ships = sym x.is_ships.ensures ∙ x.if-not-is_ships.false
 
 -- the header is good
 module _ (x : Else-first-eq0) where
@@ -39,9 +38,9 @@ module _ (x : Else-first-eq0) where
   begins = x.rows_begin-first.ensures
 
 -- and so is every row
-module _ (x : In-Good-2) where
+module _ (x : In-Good) where
   abbrev header : Else-first-eq0
-  header = (goal.at.In-Good-2 x).Else-first-eq0
+  header = (goal.at.In-Good x).Else-first-eq0
 
   abbrev own : Own
   own = x.in-Good.own
@@ -49,7 +48,7 @@ module _ (x : In-Good-2) where
   abbrev rising : Bool
   rising = x.in-Good.rising
 
-  rows : rows_read (list (good header)) header.before.rows-begin.result (name (good header)) ≡ Good own rising
+  rows : rows_read (list (good header)) x.rows_begin-first.result (name (good header)) ≡ Good own rising
   rows = sym x.read.ensures ∙ x.in-Good.is
 
 pub returns-then-not-is_ships : goal.returns-then-not-is_ships
@@ -69,21 +68,21 @@ returns-in_default c =
 
 pub is_repeated-requires : goal.is_repeated-requires
 is_repeated-requires c =
-    let x = (goal.at.is_repeated-requires c).In-Good-2 in
+    let x = (goal.at.is_repeated-requires c).In-Good in
     let given = good (header x) in
-    in_order (list given) (name given) (edition given) (update given) (ships given) _ (begins (header x)) (header x).if2.false (own x) (rising x) (rows x)
+    in_order (list given) (name given) (edition given) (update given) (ships given) _ (begins (header x)) c.if-first-eq0.false (own x) (rising x) (rows x)
 
 pub returns-then-is_repeated : goal.returns-then-is_repeated
 returns-then-is_repeated c =
-    let x = (goal.at.returns-then-is_repeated c).In-Good-2 in
+    let x = (goal.at.returns-then-is_repeated c).In-Good in
     let given = good (header x) in
-    sym (twice (list given) (name given) (edition given) (update given) (ships given) _ (begins (header x)) (header x).if2.false (own x) (rising x) (rows x)
+    sym (twice (list given) (name given) (edition given) (update given) (ships given) _ (begins (header x)) c.if-first-eq0.false (own x) (rising x) (rows x)
     (sym c.is_repeated.ensures ∙ c.if-is_repeated.true))
 
 pub returns : goal.returns
 returns c =
-    let x = (goal.at.returns c).In-Good-2 in
+    let x = (goal.at.returns c).In-Good in
     let given = good (header x) in
     c.standing_by.ensures
-    ∙ sym (once (list given) (name given) (edition given) (update given) (ships given) _ (begins (header x)) (header x).if2.false (own x) (rising x) (rows x)
+    ∙ sym (once (list given) (name given) (edition given) (update given) (ships given) _ (begins (header x)) c.if-first-eq0.false (own x) (rising x) (rows x)
     (sym c.is_repeated.ensures ∙ c.if-is_repeated.false))

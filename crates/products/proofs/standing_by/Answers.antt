@@ -10,14 +10,14 @@ returns-in_default c = let args = c.args in sym (not_listed args.own args.editio
 pub returns-then-row-eq0 : goal.returns-then-row-eq0
 returns-then-row-eq0 c =
     let args = c.args in
-    sym (cancelled args.own args.edition args.update _ c.own_val.given.1 c.if-row-eq0.true)
+    sym (cancelled args.own args.edition args.update _ c.in-Listed.is c.if-row-eq0.true)
 
 pub returns-then-is_behind : goal.returns-then-is_behind
 returns-then-is_behind c =
     let args = c.args in
-    sym (behind args.own args.edition args.update _ c.own_val.given.1 c.if-row-eq0.false (sym c.is_behind.ensures ∙ c.if-is_behind.true))
+    sym (behind args.own args.edition args.update _ c.in-Listed.is c.if-row-eq0.false (sym c.is_behind.ensures ∙ c.if-is_behind.true))
 
 pub returns : goal.returns
 returns c =
     let args = c.args in
-    sym (up-to-date args.own args.edition args.update _ c.own_val.given.1 c.if-row-eq0.false (sym c.is_behind.ensures ∙ c.if-is_behind.false))
+    sym (up-to-date args.own args.edition args.update _ c.in-Listed.is c.if-row-eq0.false (sym c.is_behind.ensures ∙ c.if-is_behind.false))

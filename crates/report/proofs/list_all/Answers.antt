@@ -76,11 +76,11 @@ pub put_totals-requires : goal.put_totals-requires
 put_totals-requires c =
     let lines = (goal.at.put_totals-requires c).After-list_lines-t in
     let pre = c.requires in
-    totals-fit (input lines) pre.0 (out lines) pre.1 c.list_lines-t.result (tallied lines) (out1 lines) (listed lines)
+    totals-fit (input lines) pre.input_value (out lines) pre.input_in_bounds c.list_lines-t.result (tallied lines) (out1 lines) (listed lines)
 
 pub returns : goal.returns
 returns c =
     let lines = (goal.at.returns c).After-list_lines-t in
     let pre = c.requires in
-    report-put (input lines) pre.0 (out lines) pre.1 c.list_lines-t.result (tallied lines) (out1 lines) (listed lines)
+    report-put (input lines) pre.input_value (out lines) pre.input_in_bounds c.list_lines-t.result (tallied lines) (out1 lines) (listed lines)
     c.put_totals.result c.put_totals.new.out c.put_totals.ensures

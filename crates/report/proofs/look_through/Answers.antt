@@ -20,7 +20,7 @@ module _ (number : After-start_number-number) where
   out = number.args.out.now
 
   room : room_for input ≤ length out
-  room = omega (arith, number.if-out-room_for.left, number.room_for.ensures)
+  room = omega (arith, number.if-out-room_for.false, number.room_for.ensures)
 
   refused_why : (number.start_number-number.result ≡ 0 → ⊥) → report input ≡ refused_text number.start_number-number.result
   refused_why h =

@@ -3,7 +3,6 @@
 use mathlib.Core.Path.{◌≡◌, sym, ◌∙◌}
 use Prim.Native.Nat.{ℕ}
 use native.Mathlib.Omega.{arith}
-use borrow.Author.Tests.{not-true}
 use Rattle.cell_permit.proofs.GoodCell.{not_cell, by_server}
 use Rattle.writing_line.proofs.is_cell.Goals as goal
 

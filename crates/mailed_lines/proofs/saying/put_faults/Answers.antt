@@ -10,7 +10,7 @@ use Rattle.text.specs.Texts.{width}
 use Rattle.mailed_lines.specs.Saying.{faults_said}
 use Rattle.mailed_lines.proofs.PutLines.{width_short, not-put, if_small, faults_size}
 use Rattle.mailed_lines.proofs.saying.put_faults.Goals as goal
-use Rattle.mailed_lines.proofs.saying.put_faults.Goals.{After-length_if-3, After-width-n, Start, Then-lies_within}
+use Rattle.mailed_lines.proofs.saying.put_faults.Goals.{After-length_if-3, After-width-n, Then-lies_within}
 
 -- how many digits the count has
 short : (w : After-width-n) → w.width-n.result ≤ 20
@@ -18,30 +18,22 @@ short w = omega (arith, w.width-n.ensures, width_short w.args.count w.ranges.cou
 
 -- how long all are
 module _ (c : After-length_if-3) where
-  abbrev counted : After-width-n
-  counted = (goal.at.After-length_if-3 c).After-width-n
-
-  abbrev start : Start
-  start = counted.before.before
-
   -- as the definition counts digits
-  by_width : (fault : Bool) (letters x : ℕ) → x ≡ cond fault (counted.width.result + letters) 0 → x ≡ cond fault (width start.args.count + letters) 0
-  by_width fault letters x is = is ∙ ap (λ (n : ℕ). cond fault (n + letters) 0) counted.width.ensures
+  by_width : (fault : Bool) (letters x : ℕ) → x ≡ cond fault (c.width-n.result + letters) 0 → x ≡ cond fault (width c.args.count + letters) 0
+  by_width fault letters x is = is ∙ ap (λ (n : ℕ). cond fault (n + letters) 0) c.width-n.ensures
 
   size : c.length_if.result + c.length_if-2.result + c.length_if-3.result
-      ≡ length (faults_said start.args.eol start.args.blank start.args.case start.args.count)
+      ≡ length (faults_said c.args.eol c.args.blank c.args.case c.args.count)
   size =
-      faults_size start.args.eol start.args.blank start.args.case start.args.count
+      faults_size c.args.eol c.args.blank c.args.case c.args.count
       c.length_if.result c.length_if-2.result c.length_if-3.result
-      (by_width start.args.eol 5 _ c.length_if.ensures)
-      (by_width start.args.blank 7 _ c.length_if-2.ensures)
-      (by_width start.args.case 6 _ c.length_if-3.ensures)
+      (by_width c.args.eol 5 _ c.length_if.ensures)
+      (by_width c.args.blank 7 _ c.length_if-2.ensures)
+      (by_width c.args.case 6 _ c.length_if-3.ensures)
 
 -- they lie within
 inside : (fits : Then-lies_within)
-    → let sized = (goal.at.Then-lies_within fits).After-length_if-2 in
-    (start sized).args.at + (fits.length_if.result + fits.length_if-2.result + fits.length_if-3.result)
-    ≤ length (start sized).args.list.now
+    → fits.args.at + (fits.length_if.result + fits.length_if-2.result + fits.length_if-3.result) ≤ length fits.args.list.now
 inside fits = leb-true _ _ (sym fits.lies_within.ensures ∙ fits.if-lies_within.true)
 
 pub length_if-requires : goal.length_if-requires
@@ -68,30 +60,29 @@ length_if-requires-3 c = (short (goal.at.length_if-requires-3 c).After-width-n, 
 
 pub overflow_add-size-2 : goal.overflow_add-size-2
 overflow_add-size-2 c =
-    let w = counted (goal.at.overflow_add-size-2 c).After-length_if-3 in
+    let w = (goal.at.overflow_add-size-2 c).After-width-n in
     record {
       fits =
           omega (
             arith,
             short w,
-            if_small (start (goal.at.overflow_add-size-2 c).After-length_if-3).args.eol w.width.result 5 _ c.length_if.ensures,
-            if_small (start (goal.at.overflow_add-size-2 c).After-length_if-3).args.blank w.width.result 7 _ c.length_if-2.ensures,
-            if_small (start (goal.at.overflow_add-size-2 c).After-length_if-3).args.case w.width.result 6 _ c.length_if-3.ensures,
+            if_small c.args.eol c.width-n.result 5 _ c.length_if.ensures,
+            if_small c.args.blank c.width-n.result 7 _ c.length_if-2.ensures,
+            if_small c.args.case c.width-n.result 6 _ c.length_if-3.ensures,
           );
     }
 
 pub put_each-requires : goal.put_each-requires
 put_each-requires c =
     let fits = (goal.at.put_each-requires c).Then-lies_within in
-    let sized = (goal.at.put_each-requires c).After-length_if-2 in
-    record { n_value = (counted sized).width.ensures; count_in_bounds = omega (arith, size sized, inside fits) }
+    let sized = (goal.at.put_each-requires c).After-length_if-3 in
+    record { n_value = c.width-n.ensures; count_in_bounds = omega (arith, size sized, inside fits) }
 
 pub returns-then-lies_within : goal.returns-then-lies_within
 returns-then-lies_within c =
-    (size (goal.at.returns-then-lies_within c).After-length_if-2, c.put_each.ensures)
+    (size (goal.at.returns-then-lies_within c).After-length_if-3, c.put_each.ensures)
 
 pub returns-else-lies_within : goal.returns-else-lies_within
 returns-else-lies_within c =
-    let sized = (goal.at.returns-else-lies_within c).After-length_if-2 in
-    let args = (start sized).args in
-    (size sized, not-put args.at _ _ args.list.now (size sized) (sym c.lies_within.ensures ∙ c.if-lies_within.false))
+    let sized = (goal.at.returns-else-lies_within c).After-length_if-3 in
+    (size sized, not-put c.args.at _ _ c.args.list.now (size sized) (sym c.lies_within.ensures ∙ c.if-lies_within.false))

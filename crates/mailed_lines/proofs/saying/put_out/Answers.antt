@@ -35,17 +35,17 @@ overflow_add-size-2 c =
 
 pub overflow_add-at : goal.overflow_add-at
 overflow_add-at c =
-    let fits = (goal.at.overflow_add-at c).After-put_counted-arg-1 in
+    let fits = (goal.at.overflow_add-at c).Then-lies_within in
     record { fits = omega (arith, inside fits, c.well_formed.0) }
 
 pub overflow_add-at-then-lies_within : goal.overflow_add-at-then-lies_within
 overflow_add-at-then-lies_within c =
-    let fits = (goal.at.overflow_add-at-then-lies_within c).After-put_counted-arg-1 in
+    let fits = (goal.at.overflow_add-at-then-lies_within c).Then-lies_within in
     record { fits = omega (arith, inside fits, c.well_formed.0) }
 
 pub overflow_add-at-then-lies_within-2 : goal.overflow_add-at-then-lies_within-2
 overflow_add-at-then-lies_within-2 c =
-    let fits = (goal.at.overflow_add-at-then-lies_within-2 c).After-put_counted-arg-1 in
+    let fits = (goal.at.overflow_add-at-then-lies_within-2 c).Then-lies_within in
     record { fits = omega (arith, inside fits, c.well_formed.0) }
 
 pub returns-then-lies_within : goal.returns-then-lies_within

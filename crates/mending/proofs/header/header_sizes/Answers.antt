@@ -9,7 +9,10 @@ use Rattle.mending.proofs.header.header_sizes.Goals as goal
 pub put_header-requires : goal.put_header-requires
 put_header-requires c =
     let file = c.args.file.now in
-    let e = c.args.e in record { file_value = c.requires; takes = (
+    let e = c.args.e in record {
+      file_value = c.requires;
+      takes = (
         (omega (arith, header_short file e c.requires, c.well_formed.0), inr refl),
         (omega (arith, header_list file e), inr refl),
-      ) }
+      );
+    }

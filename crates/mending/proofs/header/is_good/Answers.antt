@@ -33,10 +33,13 @@ pub put_header-requires : goal.put_header-requires
 put_header-requires c =
     let fits = (goal.at.put_header-requires c).Else-size-ne40 in
     let file = c.args.file.now in
-    let e = c.args.e in record { file_value = c.requires; takes = (
+    let e = c.args.e in record {
+      file_value = c.requires;
+      takes = (
         (omega (arith, forty fits), inl (omega (arith, forty fits))),
         (omega (arith, header_list file e), inr refl),
-      ) }
+      );
+    }
 
 pub returns : goal.returns
 returns c =

@@ -9,7 +9,7 @@ use Rattle.mended_lines.specs.declared.Places.{Places}
 use Rattle.mended_lines.specs.declared.Given.{Given}
 use Rattle.mending.specs.Walking.{text_between}
 use Rattle.mending.proofs.header.put_one.Goals as goal
-use Rattle.mending.proofs.header.put_one.Goals.{After-put_header_line-g, Start}
+use Rattle.mending.proofs.header.put_one.Goals.{After-put_header_line-g}
 
 -- places by their parts
 abbrev places : ℕ → ℕ → Places
@@ -17,11 +17,8 @@ places file list = record { file = file; list = list }
 
 -- both lengths
 module _ (put : After-put_header_line-g) where
-  abbrev start : Start
-  start = (goal.at.After-put_header_line-g put).Start
-
   abbrev g : Gives
-  g = header_gives start.args.count (text_between start.args.file.now start.args.from start.args.to)
+  g = header_gives put.args.count (text_between put.args.file.now put.args.from put.args.to)
 
   file_size : put.put_header_line-g.result.file ≡ length g.file
   file_size = ap (λ (r : Given). r.file) put.put_header_line-g.ensures.0
@@ -32,17 +29,16 @@ module _ (put : After-put_header_line-g) where
 pub overflow_add-result : goal.overflow_add-result
 overflow_add-result c =
     let put = (goal.at.overflow_add-result c).After-put_header_line-g in
-    record { fits = omega (arith, file_size put, (start put).requires.1.0.0) }
+    record { fits = omega (arith, file_size put, c.requires.room.0.0) }
 
 pub overflow_add-result-2 : goal.overflow_add-result-2
 overflow_add-result-2 c =
     let put = (goal.at.overflow_add-result-2 c).After-put_header_line-g in
-    record { fits = omega (arith, list_size put, (start put).requires.1.1.0) }
+    record { fits = omega (arith, list_size put, c.requires.room.1.0) }
 
 pub returns : goal.returns
 returns c =
-    let put = (goal.at.returns c).After-put_header_line-g in
-    let at = (start put).args.at in (
+    let at = c.args.at in (
       ap (λ (r : Given). places (at.file + r.file) (at.list + r.list)) c.put_header_line-g.ensures.0,
       c.put_header_line-g.ensures.1,
     )

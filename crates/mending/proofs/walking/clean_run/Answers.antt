@@ -1,7 +1,7 @@
 -- `mending::walking::clean_run` meets its contract. The invariant: so many clean records were passed, and n is the length of the next.
 -- Assumes nothing.
 use mathlib.Core.Path.{refl, sym, subst}
-use Prim.Native.Nat.{ℕ, ◌+◌, ◌-◌}
+use Prim.Native.Nat.{ℕ, ◌+◌}
 use native.Mathlib.Numerals.{add-one}
 use native.Mathlib.Omega.{arith}
 use Rattle.mending.specs.Walking.{CleanAt, Cleans}

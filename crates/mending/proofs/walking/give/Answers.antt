@@ -7,20 +7,16 @@ use lib.ListN.{length}
 use Rattle.mailed_lines.proofs.CutTexts.{text_begins, text_ends_within}
 use Rattle.mending.proofs.TextGives.{unended_part, ended_part, same_given}
 use Rattle.mending.proofs.walking.give.Goals as goal
-use Rattle.mending.proofs.walking.give.Goals.{Else-end-file, Start}
+use Rattle.mending.proofs.walking.give.Goals.{Else-end-file}
 
 -- what LF ends
-module _ (c : Else-end-file) where
-  abbrev begin : Start
-  begin = (goal.at.Else-end-file c).Start
-
-  bounds : (begin.args.place ≤ begin.args.end) × (begin.args.end < length begin.args.file.now)
-  bounds =
-      let file = begin.args.file.now in
-      let place = begin.args.place in (
-        omega (arith, begin.pre.0.1, text_begins file place),
-        omega (arith, begin.pre.0.1, text_ends_within file place begin.pre.0.0, c.if-end-file.false),
-      )
+bounds : (c : Else-end-file) → (c.args.place ≤ c.args.end) × (c.args.end < length c.args.file.now)
+bounds c =
+    let file = c.args.file.now in
+    let place = c.args.place in (
+      omega (arith, c.requires.place_in_bounds.1, text_begins file place),
+      omega (arith, c.requires.place_in_bounds.1, text_ends_within file place c.requires.place_in_bounds.0, c.if-end-file.false),
+    )
 
 pub returns-then-end-file : goal.returns-then-end-file
 returns-then-end-file c =
@@ -62,8 +58,7 @@ slice_bounds-put_ended-start-2 c =
 pub returns : goal.returns
 returns c =
     let ended = (goal.at.returns c).Else-end-file in
-    let start = begin ended in
-    let args = start.args in
-    same_given _ _ (ended_part args.file.now args.place args.end args.count start.pre.0.0 start.pre.0.1 (bounds ended).1)
+    let args = c.args in
+    same_given _ _ (ended_part args.file.now args.place args.end args.count c.requires.place_in_bounds.0 c.requires.place_in_bounds.1 (bounds ended).1)
     args.at args.out.now args.list.now c.put_ended.result
     c.put_ended.new.out c.put_ended.new.list c.put_ended.ensures

@@ -11,10 +11,10 @@ use Rattle.file_lines.proofs.Walks.{line_bounds, found_part}
 use Rattle.products.specs.Reading.{kind_test}
 use Rattle.products.proofs.Headers.{by_test, by_none, by_end}
 use Rattle.products.proofs.header.past.Goals as goal
-use Rattle.products.proofs.header.past.Goals.{In-Line-2}
+use Rattle.products.proofs.header.past.Goals.{In-Line}
 
 -- a line was found
-module _ (x : In-Line-2) where
+module _ (x : In-Line) where
   abbrev bytes : List ℕ
   bytes = x.args.list.now
 
@@ -34,20 +34,20 @@ module _ (x : In-Line-2) where
   line_part = found_part bytes at end line_found_lem
 
 pub slice_bounds-is_of-count : goal.slice_bounds-is_of-count
-slice_bounds-is_of-count c = (bounds (goal.at.slice_bounds-is_of-count c).In-Line-2).1.0
+slice_bounds-is_of-count c = (bounds (goal.at.slice_bounds-is_of-count c).In-Line).1.0
 
 pub slice_bounds-is_of-start : goal.slice_bounds-is_of-start
-slice_bounds-is_of-start c = let within = bounds (goal.at.slice_bounds-is_of-start c).In-Line-2 in search rules
+slice_bounds-is_of-start c = let within = bounds (goal.at.slice_bounds-is_of-start c).In-Line in search rules
 
 pub slice_bounds-is_of-end : goal.slice_bounds-is_of-end
-slice_bounds-is_of-end c = let within = bounds (goal.at.slice_bounds-is_of-end c).In-Line-2 in search rules
+slice_bounds-is_of-end c = let within = bounds (goal.at.slice_bounds-is_of-end c).In-Line in search rules
 
 pub overflow_add-result : goal.overflow_add-result
-overflow_add-result c = let within = bounds (goal.at.overflow_add-result c).In-Line-2 in search rules
+overflow_add-result c = let within = bounds (goal.at.overflow_add-result c).In-Line in search rules
 
 pub returns-then-is_of : goal.returns-then-is_of
 returns-then-is_of c =
-    let line = (goal.at.returns-then-is_of c).In-Line-2 in
+    let line = (goal.at.returns-then-is_of c).In-Line in
     let kind = c.args.kind in
     sym
     (by_test kind (bytes line) (at line) (end line) (line_found_lem line)
@@ -55,7 +55,7 @@ returns-then-is_of c =
 
 pub returns-else-is_of : goal.returns-else-is_of
 returns-else-is_of c =
-    let line = (goal.at.returns-else-is_of c).In-Line-2 in
+    let line = (goal.at.returns-else-is_of c).In-Line in
     let kind = c.args.kind in
     sym
     (by_test kind (bytes line) (at line) (end line) (line_found_lem line)

@@ -24,7 +24,7 @@ module _ (x : After-past-content) where
   is_third = x.past-content.ensures ∙ ap (passed Version (list1 first)) (is_second first)
 
   some_second : second (list1 first) ≡ 0 → ⊥
-  some_second none = x.if-version-eq0.left (is_second first ∙ none)
+  some_second none = x.if-version-eq0.false (is_second first ∙ none)
 
 module _ (x : After-past-enc) where
   abbrev before3 : After-past-content
@@ -34,7 +34,7 @@ module _ (x : After-past-enc) where
   is_fourth = x.past-enc.ensures ∙ ap (passed Content (list1 (first before3))) (is_third before3)
 
   some_third : third (list1 (first before3)) ≡ 0 → ⊥
-  some_third none = x.if-content-eq0.left (is_third before3 ∙ none)
+  some_third none = x.if-content-eq0.false (is_third before3 ∙ none)
 
 pub returns-then-version-eq0 : goal.returns-then-version-eq0
 returns-then-version-eq0 c = no_date_lem (list1 (goal.at.returns-then-version-eq0 c).After-past-version) (sym (is_second (goal.at.returns-then-version-eq0 c).After-past-version) ∙ c.if-version-eq0.true)

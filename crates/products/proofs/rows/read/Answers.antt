@@ -2,7 +2,7 @@
 -- Assumes nothing.
 use mathlib.Core.Path.{◌≡◌, sym, ◌∙◌}
 use mathlib.Core.List.{List}
-use Prim.Native.Nat.{ℕ, ◌+◌, ◌-◌, ◌≤◌}
+use Prim.Native.Nat.{ℕ, ◌+◌, ◌≤◌}
 use native.Mathlib.Omega.{arith}
 use lib.ListN.{length}
 use borrow.Author.Rules.{rules}
@@ -11,55 +11,52 @@ use Rattle.file_lines.specs.declared.LineFound.TheVariants.{Line}
 use Rattle.file_lines.proofs.Walks.{line_bounds}
 use Rattle.products.proofs.RowsPassed.{start, ended, ran_out, not_ended, bad-row, next}
 use Rattle.products.proofs.rows.read.Goals as goal
-use Rattle.products.proofs.rows.read.Goals.{At-loop-at, In-Line-2}
+use Rattle.products.proofs.rows.read.Goals.{In-Line}
 
 -- a line was found
-module _ (x : In-Line-2) where
-  abbrev turn : At-loop-at
-  turn = (goal.at.In-Line-2 x).At-loop-at
-
+module _ (x : In-Line) where
   abbrev bytes : List ℕ
-  bytes = turn.before.before.args.list.now
+  bytes = x.args.list.now
 
   abbrev end : ℕ
   end = x.in-Line.end
 
-  line_found_lem : line_found bytes turn.loop.at ≡ Line end
+  line_found_lem : line_found bytes x.loop-at.at ≡ Line end
   line_found_lem = sym x.line_at.ensures ∙ x.in-Line.is
 
-  bounds : (end ≡ line_ends bytes turn.loop.at) × ((turn.loop.at ≤ end) × (end + 2 ≤ length bytes))
-  bounds = line_bounds bytes turn.loop.at end line_found_lem
+  bounds : (end ≡ line_ends bytes x.loop-at.at) × ((x.loop-at.at ≤ end) × (end + 2 ≤ length bytes))
+  bounds = line_bounds bytes x.loop-at.at end line_found_lem
 
 pub loop-at-init : goal.loop-at-init
 loop-at-init c = start _ _ _
 
 pub slice_bounds-read_row-count : goal.slice_bounds-read_row-count
-slice_bounds-read_row-count c = (bounds (goal.at.slice_bounds-read_row-count c).In-Line-2).1.0
+slice_bounds-read_row-count c = (bounds (goal.at.slice_bounds-read_row-count c).In-Line).1.0
 
 pub slice_bounds-read_row-start : goal.slice_bounds-read_row-start
-slice_bounds-read_row-start c = let within = bounds (goal.at.slice_bounds-read_row-start c).In-Line-2 in search rules
+slice_bounds-read_row-start c = let within = bounds (goal.at.slice_bounds-read_row-start c).In-Line in search rules
 
 pub slice_bounds-read_row-end : goal.slice_bounds-read_row-end
-slice_bounds-read_row-end c = let within = bounds (goal.at.slice_bounds-read_row-end c).In-Line-2 in search rules
+slice_bounds-read_row-end c = let within = bounds (goal.at.slice_bounds-read_row-end c).In-Line in search rules
 
 pub returns-in_default : goal.returns-in_default
 returns-in_default c =
-    let line = (goal.at.returns-in_default c).In-Line-2 in
-    sym (bad-row (turn line).loop.invariant (end line) (line_found_lem line) (sym c.read_row.ensures ∙ c.in_default.is))
+    let line = (goal.at.returns-in_default c).In-Line in
+    sym (bad-row c.loop-at.invariant (end line) (line_found_lem line) (sym c.read_row.ensures ∙ c.in_default.is))
 
 pub overflow_add-at : goal.overflow_add-at
-overflow_add-at c = let within = bounds (goal.at.overflow_add-at c).In-Line-2 in search rules
+overflow_add-at c = let within = bounds (goal.at.overflow_add-at c).In-Line in search rules
 
 pub loop-at-smaller : goal.loop-at-smaller
 loop-at-smaller c =
-    let line = (goal.at.loop-at-smaller c).In-Line-2 in
+    let line = (goal.at.loop-at-smaller c).In-Line in
     omega (arith, bounds line)
 
 pub loop-at-preserved : goal.loop-at-preserved
 loop-at-preserved c =
-    let line = (goal.at.loop-at-preserved c).In-Line-2 in
+    let line = (goal.at.loop-at-preserved c).In-Line in
     rw c.found-own.ensures
-    (next (turn line).loop.invariant (end line) (line_found_lem line) c.in-Cell.row (sym c.read_row.ensures ∙ c.in-Cell.is))
+    (next c.loop-at.invariant (end line) (line_found_lem line) c.in-Cell.row (sym c.read_row.ensures ∙ c.in-Cell.is))
 
 pub returns-in-Unended : goal.returns-in-Unended
 returns-in-Unended c =

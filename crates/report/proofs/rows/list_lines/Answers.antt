@@ -2,7 +2,7 @@
 -- The measure is what is left of the file. Assumes nothing.
 use mathlib.Core.Path.{refl, ap, ◌∙◌}
 use mathlib.Core.List.{List}
-use Prim.Native.Nat.{ℕ, ◌-◌, ◌≤◌}
+use Prim.Native.Nat.{ℕ, ◌≤◌}
 use native.Mathlib.Omega.{arith}
 use lib.ListN.{length}
 use Rattle.octets.specs.Every.{count_of}
@@ -38,9 +38,7 @@ module _ (at : At-loop-t) where
       read_with args.words.now args.today args.days
 
   opened : Fitting file start
-  opened =
-      let pre = at.pre in
-      record { within = pre.0.0; size = pre.0.1; room = pre.1 }
+  opened = record { within = at.requires.in_bounds.0; size = at.requires.in_bounds.1; room = at.requires.file_in_bounds }
 
   short : Short read
   short =
@@ -51,8 +49,11 @@ pub turn-t-requires : goal.turn-t-requires
 turn-t-requires c =
     let at = (goal.at.turn-t-requires c).At-loop-t in
     let t = c.loop-t.t in
-    let out = c.loop-t.out in record { few = few (read at) (file at) (start at) (opened at) t out c.loop-t.invariant; t_in_bounds = turn-fits (read at) (file at) (start at) (opened at) t out c.loop-t.invariant (short at)
-          (step_by (read at) (file at) t.place) refl }
+    let out = c.loop-t.out in record {
+      few = few (read at) (file at) (start at) (opened at) t out c.loop-t.invariant;
+      t_in_bounds = turn-fits (read at) (file at) (start at) (opened at) t out c.loop-t.invariant (short at)
+          (step_by (read at) (file at) t.place) refl;
+    }
 
 pub loop-t-smaller : goal.loop-t-smaller
 loop-t-smaller c =

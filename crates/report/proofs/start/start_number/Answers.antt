@@ -56,10 +56,9 @@ slice_bounds-open-start c = omega (arith, first_within _ (shape_good (goal.at.sl
 
 pub returns : goal.returns
 returns c =
-    let opened = (goal.at.returns c).After-open in
     let given = (goal.at.returns c).After-given_number-given in
     let two = (goal.at.returns c).Else-not-is_first_line in
     let input = input_of two in
     c.open_number.ensures
-    ∙ ap open_number (opened.«open».ensures ∙ ap open_of (take_all (length input - 19) (drop 19 input) (simp length-drop (omega arith))))
+    ∙ ap open_number (c.«open».ensures ∙ ap open_of (take_all (length input - 19) (drop 19 input) (simp length-drop (omega arith))))
     ∙ sym (by-opening input (omega arith) (shape_good two) (sym (given_value given) ∙ c.if-given-ne0.false))

@@ -25,7 +25,7 @@ module _ (f : After-put_field-end) where
       f.put_field-end.result f.put_field-end.new.out f.put_field-end.ensures
 
 pub overflow_add-result : goal.overflow_add-result
-overflow_add-result c = omega (arith, left (goal.at.overflow_add-result c).After-out-1)
+overflow_add-result c = omega (arith, left (goal.at.overflow_add-result c).After-put_field-end)
 
 pub returns : goal.returns
 unfolding last_field
