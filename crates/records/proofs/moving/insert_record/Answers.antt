@@ -1,28 +1,31 @@
 -- `records::moving::insert_record` meets its contract: a gap, the record in it, and the used length; or nothing.
 -- Assumes nothing.
-use Prim.Native.Nat.{◌+◌, ◌≤◌}
+use mathlib.Core.List.{List}
+use mathlib.Core.Path.{◌≡◌}
+use Prim.Native.Nat.{ℕ, ◌+◌, ◌≤◌}
 use native.Mathlib.Omega.{arith}
+use borrow.Author.Rules.{rules}
 use lib.ListN.{length, length-take, length-drop}
 use Rattle.tenants.specs.Together.{in_book}
-use Rattle.layout.specs.Layout.{record_size, used_length, record_place}
+use Rattle.octets.specs.Numbers.{Below}
+use Rattle.layout.specs.Layout.{record_count, record_size, used_length, record_place}
 use Rattle.records.proofs.Searching.{count_most}
 use Rattle.records.proofs.Guarded.{put_in, put-too-far, no_room}
 use Rattle.records.proofs.moving.insert_record.Goals as goal
-use Rattle.records.proofs.moving.insert_record.Goals.{After-count-n, Then-used-book, else-i-n-via-then-i-n+else-used-book, else-i-n-via-else-i-n}
+use Rattle.records.proofs.moving.insert_record.Goals.{Then-used-book, else-i-n-via-then-i-n+else-used-book, else-i-n-via-else-i-n}
 
 -- so many records at most are told
-few : (k : After-count-n) → k.count-n.result ≤ 178956966
-few k =
-    omega (arith, k.count-n.ensures, count_most k.args.book.now (λ j. omega (arith, k.slice_known-1.given j)))
+few : (s : List ℕ) (n : ℕ) → Below 256 s → n ≡ record_count s → n ≤ 178956966
+few s n below told = omega (arith, told, count_most s below)
 
 pub overflow_mul-used : goal.overflow_mul-used
-overflow_mul-used c = omega (arith, few (goal.at.overflow_mul-used c).After-count-n)
+overflow_mul-used c = omega (arith, few _ _ (λ j. search rules) c.count-n.ensures)
 
 pub overflow_add-used : goal.overflow_add-used
-overflow_add-used c = omega (arith, few (goal.at.overflow_add-used c).After-count-n)
+overflow_add-used c = omega (arith, few _ _ (λ j. search rules) c.count-n.ensures)
 
 pub overflow_add-used-then-i-n : goal.overflow_add-used-then-i-n
-overflow_add-used-then-i-n c = omega (arith, few (goal.at.overflow_add-used-then-i-n c).After-count-n)
+overflow_add-used-then-i-n c = omega (arith, few _ _ (λ j. search rules) c.count-n.ensures)
 
 -- there is room for one record more, and the place is no further than those there are
 module _ (c : Then-used-book) where
@@ -43,10 +46,6 @@ overflow_sub-used c = inside (goal.at.overflow_sub-used c).Then-used-book
 
 pub open_gap-requires : goal.open_gap-requires
 open_gap-requires c = simp (length-take, length-drop) (omega (arith, room (goal.at.open_gap-requires c).Then-used-book, inside (goal.at.open_gap-requires c).Then-used-book))
-
-pub overflow_add-used-then-used-book : goal.overflow_add-used-then-used-book
-overflow_add-used-then-used-book c =
-    omega (arith, few (goal.at.overflow_add-used-then-used-book c).After-count-n)
 
 pub returns-then-used-book : goal.returns-then-used-book
 returns-then-used-book c =

@@ -1,24 +1,27 @@
 -- `records::moving::remove_record` meets its contract: the gap is closed, and the used length written; or nothing.
 -- Assumes nothing.
-use Prim.Native.Nat.{◌+◌, ◌≤◌}
+use mathlib.Core.List.{List}
+use mathlib.Core.Path.{◌≡◌}
+use Prim.Native.Nat.{ℕ, ◌+◌, ◌≤◌}
 use native.Mathlib.Omega.{arith}
+use borrow.Author.Rules.{rules}
 use lib.ListN.{length, length-take, length-drop}
-use Rattle.layout.specs.Layout.{record_size, used_length, record_place}
+use Rattle.octets.specs.Numbers.{Below}
+use Rattle.layout.specs.Layout.{record_count, record_size, used_length, record_place}
 use Rattle.records.proofs.Searching.{count_most}
 use Rattle.records.proofs.Guarded.{taken_out, none_there, not_within}
 use Rattle.records.proofs.moving.remove_record.Goals as goal
-use Rattle.records.proofs.moving.remove_record.Goals.{After-count-n, Then-used-book, else-i-n-via-then-i-n+else-used-book, else-i-n-via-else-i-n}
+use Rattle.records.proofs.moving.remove_record.Goals.{Then-used-book, else-i-n-via-then-i-n+else-used-book, else-i-n-via-else-i-n}
 
 -- so many records at most are told
-few : (k : After-count-n) → k.count-n.result ≤ 178956966
-few k =
-    omega (arith, k.count-n.ensures, count_most k.args.book.now (λ j. omega (arith, k.slice_known-1.given j)))
+few : (s : List ℕ) (n : ℕ) → Below 256 s → n ≡ record_count s → n ≤ 178956966
+few s n below told = omega (arith, told, count_most s below)
 
 pub overflow_mul-used : goal.overflow_mul-used
-overflow_mul-used c = omega (arith, few (goal.at.overflow_mul-used c).After-count-n)
+overflow_mul-used c = omega (arith, few _ _ (λ j. search rules) c.count-n.ensures)
 
 pub overflow_add-used : goal.overflow_add-used
-overflow_add-used c = omega (arith, few (goal.at.overflow_add-used c).After-count-n)
+overflow_add-used c = omega (arith, few _ _ (λ j. search rules) c.count-n.ensures)
 
 -- the records lie within the book, and this one is among them
 module _ (c : Then-used-book) where
