@@ -200,7 +200,7 @@ pub fn key_schedule(key: &[u8], words: &mut [u32; 1042]) -> u32
     if 56 < key.len() {
         return 103;
     }
-    *words = pi::start();
+    pi::put_start(words);
     combine(key, words);
     fill(words);
     0

@@ -163,15 +163,23 @@ fn place(words: &mut [u32; 1042], at: usize, table: &[u32])
     }
 }
 
+// Puts P, then S1 to S4, in place of a key's words.
+pub fn put_start(words: &mut [u32; 1042])
+    ensures { words.new ≡ start_words }
+{
+    *words = [0u32; 1042];
+    place(words, 0, &P);
+    place(words, 18, &S1);
+    place(words, 274, &S2);
+    place(words, 530, &S3);
+    place(words, 786, &S4);
+}
+
 // P, then S1 to S4.
 pub fn start() -> [u32; 1042]
     ensures { result ≡ start_words }
 {
     let mut words = [0u32; 1042];
-    place(&mut words, 0, &P);
-    place(&mut words, 18, &S1);
-    place(&mut words, 274, &S2);
-    place(&mut words, 530, &S3);
-    place(&mut words, 786, &S4);
+    put_start(&mut words);
     words
 }

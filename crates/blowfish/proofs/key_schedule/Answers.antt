@@ -14,4 +14,4 @@ returns c =
     let args = c.args in
     let key = args.key.now in
     let good = taken key args.words.now c.if-key-lt4.false c.if-key-gt56.false in
-    (good.0, steps key _ _ _ c.start.ensures c.combine.ensures c.fill.ensures ∙ good.1)
+    (good.0, steps key _ _ _ c.put_start.ensures c.combine.ensures c.fill.ensures ∙ good.1)

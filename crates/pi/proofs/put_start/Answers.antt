@@ -1,9 +1,9 @@
--- `pi::start` meets its contract: the five tables, one after the other, make pi_fraction by one computed test.
+-- `pi::put_start` meets its contract: the five tables, one after the other, make pi_fraction by one computed test.
 use mathlib.Core.Path.{refl}
 use Rattle.octets.specs.Numbers.{value}
 use Rattle.pi.specs.Pi.{series, pi_times, pi_fraction}
 use Rattle.pi.proofs.PiWords.{tables_are_pi}
-use Rattle.pi.proofs.start.Goals as goal
+use Rattle.pi.proofs.put_start.Goals as goal
 
 pub returns : goal.returns
 unfolding value series pi_times pi_fraction
