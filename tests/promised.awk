@@ -341,8 +341,8 @@ function equality(a, b,    k, deep, middle, left) {
 # The answer and what is left at the end may not: they would be told by themselves.
 function is_value(k,    token, before) {
     token = token_at[k]
-    if (token in reserved || token == "exit") return 0
-    if (token == "new" && token_at[k - 1] == "::") return 0
+    if (token in reserved || bare(token) ~ /^(result|exit)$/) return 0
+    if (bare(token) == "new" && token_at[k - 1] == "::") return 0
     if (token == "::") {
         before = bare(token_at[k - 1])
         if (before in given || before == ")" || token_at[k - 2] == "::") return 1
