@@ -6,7 +6,7 @@ usage: python3 tools/spelling.py [--dry]
 Words are in snake case, types and modules in camel case. A dash stays in a lemma's name where it joins the names of two definitions; else it becomes
 an underscore. The names of Blowfish's description (P, S1 to S4, F) stay as they are printed there. Functions of src/, exported C names, strings, inputs
 and outputs keep their names. The crate `bytes` has the name of a library of the kit and becomes `octets`; the two static libraries say so in crates.txt.
-It tells where two names would fall together, and changes nothing then.
+It tells where two names fall together, or a file has a name already that it gains; --dry tells it and changes nothing.
 """
 
 import glob
@@ -154,70 +154,88 @@ def octets(text):
     return re.sub(r"(?<![\w:])bytes::(?=[a-z_A-Z])", "octets::", text)
 
 
-def main(argv):
-    root = os.getcwd()
-    dry = "--dry" in argv
-    names = names = Names(root)
-    for new, olds in sorted(names.together().items()):
-        print("look: together:", new, "from", " ".join(sorted(olds)))
+def write(path, text, was, dry):
+    """Writes what changed, and says whether it did."""
+    if text != was and not dry:
+        with open(path, "w", encoding="utf-8") as f:
+            f.write(text)
+    return text != was
+
+
+def look(path, text, names, code):
+    """Tells of names that a file gains and has already, and of a parameter that hides a word of its clauses."""
+    before = set(TOKEN.findall(text))
+    gained = {names.words.get(t, snake(t)) for t in before if names.words.get(t, snake(t)) != t}
+    for t in sorted(gained & before):
+        if not (code and t in {snake(x) for x in before if x != t} and re.search(r"fn " + t + r"\b", text)):
+            print("look: in this file already:", path, t)
+    for m in re.finditer(r"\bfn (\w+)[^{;]*?\(([^)]*)\)", text if code else ""):
+        for p in re.findall(r"(\w+):", m.group(2)):
+            if p in gained:
+                print("look: a parameter hides a word:", path, m.group(1), p)
+
+
+def turn_sources(root, names, dry):
     changed = 0
     for path in list(antt_files(root)) + sorted(glob.glob(os.path.join(root, "crates", "*", "src", "**", "*.rt"), recursive=True)):
         text = was = read(path)
         code = path.endswith(".rt")
-        for old, new in BY_HAND.get(os.path.relpath(path, root).split(os.sep)[1], {}).items():
+        inner = os.path.relpath(path, root)
+        for old, new in BY_HAND.get(inner.split(os.sep)[1], {}).items():
             text = re.sub(r"(?<![\w'-])" + old + r"(?![\w'-])", new, text)
-        now = octets(turned_code(text, names) if code else turned_antt(text, names))
-        before = set(TOKEN.findall(text))
-        gained = {names.words.get(t, snake(t)) for t in before if names.words.get(t, snake(t)) != t}
-        for t in sorted(gained & before):
-            if not (code and t in {snake(x) for x in before if x != t} and re.search(r"fn " + t + r"\b", text)):
-                print("look: in this file already:", os.path.relpath(path, root), t)
-        if code:
-            for m in re.finditer(r"\bfn (\w+)[^{;]*?\(([^)]*)\)", text):
-                for p in re.findall(r"(\w+):", m.group(2)):
-                    if p in gained:
-                        print("look: a parameter hides a word:", os.path.relpath(path, root), m.group(1), p)
-        if now != was:
-            changed += 1
-            if not dry:
-                with open(path, "w", encoding="utf-8") as f:
-                    f.write(now)
+        look(inner, text, names, code)
+        changed += write(path, octets(turned_code(text, names) if code else turned_antt(text, names)), was, dry)
+    return changed
+
+
+def turn_edits(root, names, dry):
+    changed = 0
     for path in sorted(glob.glob(os.path.join(root, "crates", "*", "must-fail", "*.edit"))):
-        text = read(path)
-        now = text
+        text = was = read(path)
         for old, new in TURNED.items():
-            now = re.sub(r"\b" + old + r"\b", new, now)
+            text = re.sub(r"\b" + old + r"\b", new, text)
         # the paths of the files to be edited stay
-        parts = re.split(r"(?m)^(file: .*|old: |new: )", now)
+        parts = re.split(r"(?m)^(file: .*|old: |new: )", text)
         code = "file: src" in text
-        now = octets("".join(p if i % 2 else turned_code(p, names) if code else turned(p, names) for i, p in enumerate(parts)))
-        if now != text:
-            changed += 1
-            if not dry:
-                with open(path, "w", encoding="utf-8") as f:
-                    f.write(now)
+        changed += write(path, octets("".join(p if i % 2 else turned_code(p, names) if code else turned(p, names) for i, p in enumerate(parts))), was, dry)
+    return changed
+
+
+def turn_papers(root, names, dry):
+    """What stands in the pages between backticks."""
+    changed = 0
     for path in ["README.md"] + sorted(glob.glob(os.path.join(root, "docs", "*.md"))):
-        text = read(path)
-        now = re.sub(r"`[^`\n]+`", lambda m: turned(m.group(0), names, dashes=m.group(0).strip("`") in names.words), text)
-        if now != text:
-            changed += 1
-            if not dry:
-                with open(path, "w", encoding="utf-8") as f:
-                    f.write(now)
+        was = read(path)
+        text = re.sub(r"`[^`\n]+`", lambda m: turned(m.group(0), names, dashes=m.group(0).strip("`") in names.words), was)
+        changed += write(path, text, was, dry)
+    return changed
+
+
+def turn_crates():
+    """The crate's new name, and the two static libraries."""
+    if os.path.isdir("crates/bytes"):
+        os.rename("crates/bytes", "crates/octets")
+    out = []
+    for line in read("crates.txt").splitlines():
+        if not line.startswith("#") and ":" in line:
+            name, uses = line.split(":", 1)
+            words = ["octets" if w == "bytes" else w for w in uses.split()]
+            name = "octets" if name == "bytes" else name
+            line = name + (" staticlib" if name in ("lambukir", "probe") else "") + ":" + "".join(" " + w for w in words)
+        out.append(line)
+    with open("crates.txt", "w") as f:
+        f.write("\n".join(out) + "\n")
+
+
+def main(argv):
+    root = os.getcwd()
+    dry = "--dry" in argv
+    names = Names(root)
+    for new, olds in sorted(names.together().items()):
+        print("look: together:", new, "from", " ".join(sorted(olds)))
+    changed = sum(turn(root, names, dry) for turn in (turn_sources, turn_edits, turn_papers))
     if not dry:
-        if os.path.isdir("crates/bytes"):
-            os.rename("crates/bytes", "crates/octets")
-        text = read("crates.txt")
-        out = []
-        for line in text.splitlines():
-            if not line.startswith("#") and ":" in line:
-                name, uses = line.split(":", 1)
-                words = ["octets" if w == "bytes" else w for w in uses.split()]
-                name = "octets" if name == "bytes" else name
-                line = name + (" staticlib" if name in ("lambukir", "probe") else "") + ":" + "".join(" " + w for w in words)
-            out.append(line)
-        with open("crates.txt", "w") as f:
-            f.write("\n".join(out) + "\n")
+        turn_crates()
     print(f"spelling: {len(names.words)} names, {sum(o != n for o, n in names.words.items())} of them turned, {changed} files")
     return 0
 
