@@ -1,5 +1,6 @@
 -- A date is read where eight digits at a place are one, and it is small.
 -- Assumes nothing.
+use Rattle.std.specs.Prelude.{None, Some}
 use mathlib.Core.Path.{◌≡◌, refl, sym, ap, ◌∙◌}
 use mathlib.Core.Bool.{Bool, true, false, cond}
 use mathlib.Core.List.{List}
@@ -12,7 +13,6 @@ use Rattle.octets.specs.Numbers.{digits, Below, bytes_of}
 use Rattle.octets.specs.Places.{number_at}
 use Rattle.octets.specs.Every.{all_of}
 use Rattle.octets.proofs.Places.{bytes_at, number_beyond}
-use Rattle.octets.specs.declared.numbers.Reading.TheVariants.{Number, Wrong}
 use Rattle.octets.proofs.Every.{and_first, and_second, either}
 use Rattle.text.specs.Characters.{is_digit, decimal_number}
 use Rattle.text.specs.Texts.{part, all_at}
@@ -23,11 +23,11 @@ use Rattle.forms.specs.DateText.{is_date_at, date_at}
 use Rattle.forms.specs.Laws.{DateRight, DateWrong}
 
 -- what a test makes a number or wrong
-number_made : (t : Bool) (v x : ℕ) → cond t (Number v) Wrong ≡ Number x → (t ≡ true) × (x ≡ v)
+number_made : (t : Bool) (v x : ℕ) → cond t (Some v) None ≡ Some x → (t ≡ true) × (x ≡ v)
 number_made true v x made = (refl, cc)
 number_made false v x made = (cc, cc)
 
-wrong_made : (t : Bool) (v : ℕ) → cond t (Number v) Wrong ≡ Wrong → t ≡ false
+wrong_made : (t : Bool) (v : ℕ) → cond t (Some v) None ≡ None → t ≡ false
 wrong_made true v made = cc
 wrong_made false v made = refl
 
@@ -51,7 +51,7 @@ module _ (s : List ℕ) (at : ℕ) where
   small : all_at is_digit 8 s at ≡ true → number < 2 ^ 32
   small all = omega (arith, decimal_bound 8 s at all)
 
-  pub no_digits : all_at is_digit 8 s at ≡ false → Wrong ≡ date_at s at
+  pub no_digits : all_at is_digit 8 s at ≡ false → None ≡ date_at s at
   unfolding date_at is_date_at
   no_digits bad = rw bad
 
@@ -62,13 +62,13 @@ module _ (s : List ℕ) (at : ℕ) where
     pub number_small : x < 2 ^ 32
     number_small = rw same (small all)
 
-    pub no_date_lem : is_date x ≡ false → Wrong ≡ date_at s at
+    pub no_date_lem : is_date x ≡ false → None ≡ date_at s at
     unfolding date_at is_date_at
     no_date_lem bad = let e : is_date number ≡ false = rw same at bad in rw (all, e)
 
-    pub is-date : is_date x ≡ true → Number x ≡ date_at s at
+    pub is-date : is_date x ≡ true → Some x ≡ date_at s at
     unfolding date_at is_date_at
-    is-date good = let e : is_date number ≡ true = rw same at good in rw (all, e) (ap Number same)
+    is-date good = let e : is_date number ≡ true = rw same at good in rw (all, e) (ap Some same)
 
 -- what the test of a date at a place is made of
 pub date_tests : (s : List ℕ) (at : ℕ) → is_date_at s at ≡ true → (all_at is_digit 8 s at ≡ true) × (is_date (number s at) ≡ true)
@@ -84,7 +84,7 @@ pub date_right : DateRight
 unfolding date_at
 date_right s at x made = (number_made (is_date_at s at) (number s at) x made).0
 
-module _ (s : List ℕ) (at x : ℕ) (made : date_at s at ≡ Number x) where
+module _ (s : List ℕ) (at x : ℕ) (made : date_at s at ≡ Some x) where
   pub date_same : x ≡ number s at
   unfolding date_at
   date_same = (number_made (is_date_at s at) (number s at) x made).1

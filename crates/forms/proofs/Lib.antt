@@ -6,4 +6,5 @@ pub mod DateTexts
 pub mod Filled
 pub mod OnePlace
 pub mod Outputs
+pub mod Numbered
 pub mod NamesAt

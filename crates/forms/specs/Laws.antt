@@ -1,13 +1,12 @@
 -- What the crates above rest on: laws of the definitions here.
-use Rattle.std.specs.Prelude.{◌≡◌, Bool, true, false, List, ℕ, ◌^◌, ◌<◌}
+use Rattle.std.specs.Prelude.{◌≡◌, Bool, true, false, List, ℕ, ◌^◌, ◌<◌, None, Some}
 use Rattle.octets.specs.Places.{number_at}
-use Rattle.octets.specs.declared.numbers.Reading.TheVariants.{Number, Wrong}
 use Rattle.text.specs.Characters.{is_name_character}
 use Rattle.text.specs.Texts.{all_at}
 use Rattle.forms.specs.Identifiers.{is_text, is_hw_id, is_upper_hw_id, raised_hw_id}
 use Rattle.forms.specs.Output.{Output, refusal, Answered}
 use Rattle.forms.specs.DateText.{is_date_at, date_at}
-use Rattle.forms.specs.declared.Written.TheVariants as written
+use Rattle.forms.specs.Refusals.{refused}
 
 -- the number of a text of n bytes is below 256 ^ n
 abbrev pub TextFits : Type 0
@@ -27,12 +26,12 @@ NameAt = (n : ℕ) (s : List ℕ) (at : ℕ) → all_at is_name_character n s at
 
 -- a call that gives a refusal answers its number and leaves the lent output as it was
 abbrev pub RefusalAnswered : Type 0
-RefusalAnswered = (o : Output) (n : ℕ) (before : List ℕ) → o ≡ refusal n → Answered o before (written.Refused n) before
+RefusalAnswered = (o : Output) (n : ℕ) (before : List ℕ) → o ≡ refusal n → Answered o before (refused n) before
 
 -- a date is read only where eight digits are one
 abbrev pub DateRight : Type 0
-DateRight = (s : List ℕ) (at x : ℕ) → date_at s at ≡ Number x → is_date_at s at ≡ true
+DateRight = (s : List ℕ) (at x : ℕ) → date_at s at ≡ Some x → is_date_at s at ≡ true
 
 -- and wherever they are
 abbrev pub DateWrong : Type 0
-DateWrong = (s : List ℕ) (at : ℕ) → date_at s at ≡ Wrong → is_date_at s at ≡ false
+DateWrong = (s : List ℕ) (at : ℕ) → date_at s at ≡ None → is_date_at s at ≡ false

@@ -1,4 +1,5 @@
 pub mod Order
+pub mod Refusals
 pub mod Identifiers
 pub mod Output
 pub mod DateText

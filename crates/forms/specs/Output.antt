@@ -1,9 +1,9 @@
 -- What a call that writes gives: a text at the output's start, or a refusal that writes nothing.
-use Rattle.std.specs.Prelude.{◌≡◌, List, [], ◌++◌, ℕ, length, drop}
+use Rattle.std.specs.Prelude.{◌≡◌, List, [], ◌++◌, ℕ, length, drop, Result, Ok, Err}
 use Rattle.octets.specs.NoChoice.{AnswerAndLent}
 use Rattle.text.specs.Characters.{raised_text}
-use Rattle.forms.specs.declared.Written.{Written}
-use Rattle.forms.specs.declared.Written.TheVariants as written
+use Rattle.forms.specs.Refusals.{refused}
+use Rattle.forms.specs.declared.refusals.Refusal.{Refusal}
 
 -- a text, or the number of the refusal
 pub data Output : Type 0 where
@@ -11,9 +11,9 @@ pub data Output : Type 0 where
   refusal : ℕ → Output
 
 -- the answer: the text's length, or the refusal
-abbrev pub written_of : Output → Written
-written_of (text t) = written.Length (length t)
-written_of (refusal n) = written.Refused n
+abbrev pub written_of : Output → Result ℕ Refusal
+written_of (text t) = Ok (length t)
+written_of (refusal n) = refused n
 
 -- the lent output afterwards: the text at its start and nothing else, or as it was
 abbrev pub lent_after : Output → List ℕ → List ℕ
@@ -30,15 +30,10 @@ abbrev pub InCapitals : Output → Type 0
 InCapitals o = raised_text (bytes_written o) ≡ bytes_written o
 
 -- what a call answers and the lent output afterwards are those of what it gives
-abbrev pub Answered : Output → List ℕ → Written → List ℕ → Type 0
+abbrev pub Answered : Output → List ℕ → Result ℕ Refusal → List ℕ → Type 0
 Answered o before answer after = AnswerAndLent (written_of o) (lent_after o before) answer after
 
--- the answer's number: 0 for done
-abbrev pub written_number : Written → ℕ
-written_number (written.Length n) = 0
-written_number (written.Refused n) = n
-
 -- how many bytes were written, of a line with its CR LF
-abbrev pub written_length : Written → ℕ
-written_length (written.Length n) = n
-written_length (written.Refused n) = 0
+abbrev pub written_length : Result ℕ Refusal → ℕ
+written_length (Ok n) = n
+written_length (Err r) = 0

@@ -5,8 +5,6 @@ ghost use Rattle.octets.specs.Every.{all_of};
 ghost use Rattle.text.specs.Characters.{is_digit, decimal_number};
 ghost use Rattle.forms.specs.DateText.{date_at};
 
-use octets::numbers::Reading;
-
 // What the characters of eight digits are more than the digits: '0' for each.
 const ZEROS: u64 = 48 * 11111111;
 
@@ -26,17 +24,17 @@ fn number_of(x: u64) -> u64
         - ZEROS
 }
 
-// The date of the eight digits at a place; Wrong where they are none. They are tested all at once: where they do not lie within s, the number is 0.
-pub fn date_at(s: &[u8], at: usize) -> Reading
+// The date of the eight digits at a place; None where they are none. They are tested all at once: where they do not lie within s, the number is 0.
+pub fn date_at(s: &[u8], at: usize) -> Option<u64>
     ensures { result ≡ date_at s.now at }
 {
     let x = octets::numbers::number64(s, at);
     if !text::names::are_digits(x) {
-        return Reading::Wrong;
+        return None;
     }
     let date = number_of(x);
     if !dates::is_date(date as u32) {
-        return Reading::Wrong;
+        return None;
     }
-    Reading::Number(date)
+    Some(date)
 }

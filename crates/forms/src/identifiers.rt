@@ -1,4 +1,4 @@
-// Identifiers as numbers: whether the bytes of a number have an identifier's form.
+// Identifiers as numbers: whether the bytes of a number have an identifier's form. Each has the rules' own name; what they share is is_hex_5 and is_name_2.
 ghost use Rattle.std.specs.Prelude.{◌≡◌};
 ghost use Rattle.text.specs.Characters.{is_upper_hex, is_name_character};
 ghost use Rattle.forms.specs.Identifiers.{is_text, is_hw_id, is_upper_hw_id, raised_hw_id, is_mKey, is_mId, is_cell_name, is_producer, is_server_id};

@@ -3,13 +3,14 @@
 use mathlib.Core.Path.{◌≡◌, refl, sym, ap, ap₂, ◌∙◌}
 use mathlib.Core.List.{List, [], ◌∷◌, ◌++◌}
 use Prim.Native.Nat.{ℕ, zero, suc, ◌+◌, ◌*◌, ◌/◌, ◌%◌, ◌^◌, ◌<◌}
-use native.Mathlib.Nat.{add-suc, suc-add, zero-add, add-zero, mul_assoc, add-mul, pow-zero, pow-suc, pow-succ', mul_left_comm, mod-one, mod-lt, mod-eq_of_lt, one-le-pow, mul-add-div, mul-add-mod_self_right, div-add-mod'}
+use native.Mathlib.Nat.{add-suc, suc-add, zero-add, add-zero, mul_assoc, add-mul, pow-zero, pow-suc, pow-succ', mul_left_comm, mod-one, div-one, mod-lt, mod-eq_of_lt, one-le-pow, mul-add-div, mul-add-mod_self_right, div-add-mod'}
 use native.Mathlib.Omega.{arith}
 use lib.Arith.{digits_div, digits_lt, mod-mul}
 use lib.ListN.{length, take, drop, set, replicate, length-append, get_or-eq_default}
 use lib.Seq.{get_or-drop}
 use lib.Pow.{pow-add}
-use Rattle.octets.specs.Numbers.{digits, value, Below}
+use Rattle.std.specs.Int.{bytes_high_first}
+use Rattle.octets.specs.Numbers.{digits, bytes_of, value, Below}
 
 pub base_positive : {b : ℕ} (ds : List ℕ) → Below b ds → 0 < b
 base_positive ds below = omega (arith, below (length ds), get_or-eq_default ds 0 {n = length ds} (omega arith))
@@ -118,3 +119,10 @@ pub digits-drop : (b n m x : ℕ) → drop n (digits b (n + m) x) ≡ digits b m
 unfolding digits
 digits-drop b zero m x = rw zero-add
 digits-drop b (suc n) m x = rw suc-add (digits-drop b n m x)
+
+-- the library's bytes of a number, the highest first, are its digits in base 256
+pub bytes_are_digits : (k x : ℕ) → bytes_high_first k x ≡ bytes_of k x
+unfolding digits
+bytes_are_digits zero x = refl
+bytes_are_digits (suc zero) x = rw (pow-zero, div-one) refl
+bytes_are_digits (suc (suc k)) x = ap (λ (l : List ℕ). x / 256 ^ suc k % 256 ∷ l) (bytes_are_digits (suc k) x)

@@ -5,6 +5,7 @@ use mathlib.Core.List.{List, [], ◌∷◌}
 use Prim.Native.Nat.{ℕ, zero, suc, ◌<◌, suc-le-suc}
 use native.Mathlib.Nat.{le_of_suc-le-suc, not-suc-le-zero, zero-lt-suc}
 use lib.ListN.{length, get_or}
+use Rattle.std.specs.List.{list_all}
 use Rattle.octets.specs.Every.{all_of}
 
 pub and_first : (a b : Bool) → (a && b) ≡ true → a ≡ true
@@ -60,3 +61,9 @@ module _ (test : ℕ → Bool) where
 
 pub all_weaken : (test other : ℕ → Bool) → ((c : ℕ) → test c ≡ true → other c ≡ true) → (s : List ℕ) → all_of test s ≡ true → all_of other s ≡ true
 all_weaken test other implies s all = at_all other s (λ i h. implies (get_or s i 0) (all_at_lem test s all i h))
+
+-- the test of every byte is the library's
+pub all_is_list_all : (test : ℕ → Bool) (s : List ℕ) → all_of test s ≡ list_all test s
+unfolding all_of
+all_is_list_all test [] = refl
+all_is_list_all test (c ∷ s) = rw (all_is_list_all test s)

@@ -1,5 +1,6 @@
 -- A number and its padded block: each gives the other back, at every width up to 8 bytes.
 -- Assumes nothing.
+use Rattle.std.specs.Prelude.{None, Some}
 use mathlib.Core.Path.{◌≡◌, refl, sym, ap, ap₂, ◌∙◌}
 use mathlib.Core.Bool.{true}
 use mathlib.Core.List.{List, [], ◌∷◌}
@@ -14,7 +15,6 @@ use lib.Pow.{pow-add}
 use Rattle.octets.specs.Numbers.{digits, bytes_of, bytes_number}
 use Rattle.octets.specs.Every.{all_of}
 use Rattle.octets.specs.Padding.{padded, pad_of, is_padded, unpad_of}
-use Rattle.octets.specs.declared.numbers.Reading.TheVariants.{Number, Wrong}
 use Rattle.octets.proofs.Digits.{replicate_below, digits-length, value-digits, value_below, digits_value, value_append, digits_of_low, digits-drop}
 use Rattle.octets.proofs.Every.{all_first, all_rest, all_more, either, same_tests}
 
@@ -84,13 +84,13 @@ module _ (n : ℕ) where
         padded-exactly (pad_of n x)
         ∙ eq-eqb _ _ (ap (λ (m : ℕ). m % 256 ^ (8 - n)) (pad_sum x) ∙ digits_mod (x % 256 ^ n) (filling_below (8 - n) (omega arith)))
 
-    pub unpad-pad : (x : ℕ) → unpad_of n (pad_of n x) ≡ Number (x % 256 ^ n)
+    pub unpad-pad : (x : ℕ) → unpad_of n (pad_of n x) ≡ Some (x % 256 ^ n)
     unfolding unpad_of
     unpad-pad x =
         rw (pad-is-padded x, pad_sum x, digits_div (x % 256 ^ n) (filling_below (8 - n) (omega arith)))
 
-    pub unpad-pad-fit : (x : ℕ) → x < 256 ^ n → unpad_of n (pad_of n x) ≡ Number x
-    unpad-pad-fit x fits = unpad-pad x ∙ ap Number (mod-eq_of_lt fits)
+    pub unpad-pad-fit : (x : ℕ) → x < 256 ^ n → unpad_of n (pad_of n x) ≡ Some x
+    unpad-pad-fit x fits = unpad-pad x ∙ ap Some (mod-eq_of_lt fits)
 
     block_size : 256 ^ 8 ≡ 256 ^ n * 256 ^ (8 - n)
     block_size =
@@ -101,27 +101,27 @@ module _ (n : ℕ) where
     pad-below x =
         rw (pad_sum x, block_size) (digits_lt (mod-lt x (one-le-pow n 256 (omega arith))) (filling_below (8 - n) (omega arith)))
 
-    pub unpad-right : (block : ℕ) → block % 256 ^ (8 - n) ≡ filling (8 - n) → unpad_of n block ≡ Number (block / 256 ^ (8 - n))
+    pub unpad-right : (block : ℕ) → block % 256 ^ (8 - n) ≡ filling (8 - n) → unpad_of n block ≡ Some (block / 256 ^ (8 - n))
     unfolding unpad_of
     unpad-right block e = rw (padded-exactly block ∙ eq-eqb _ _ e)
 
-    pub unpad-wrong : (block : ℕ) → (block % 256 ^ (8 - n) ≡ filling (8 - n) → ⊥) → unpad_of n block ≡ Wrong
+    pub unpad-wrong : (block : ℕ) → (block % 256 ^ (8 - n) ≡ filling (8 - n) → ⊥) → unpad_of n block ≡ None
     unfolding unpad_of
     unpad-wrong block ne = rw (padded-exactly block ∙ ne_eqb _ _ ne)
 
     -- what a block that passes the test was made of
-    parts : (block x : ℕ) → unpad_of n block ≡ Number x → (x ≡ block / 256 ^ (8 - n)) × (block % 256 ^ (8 - n) ≡ filling (8 - n))
+    parts : (block x : ℕ) → unpad_of n block ≡ Some x → (x ≡ block / 256 ^ (8 - n)) × (block % 256 ^ (8 - n) ≡ filling (8 - n))
     unfolding unpad_of
     parts block x made =
         either (is_padded n block)
         (λ good. (cc (rw good at made), eqb-true _ _ (sym (padded-exactly block) ∙ good)))
         (λ bad. (cc (rw bad at made), cc (rw bad at made)))
 
-    pub unpad-below : (block x : ℕ) → block < 256 ^ 8 → unpad_of n block ≡ Number x → x < 256 ^ n
+    pub unpad-below : (block x : ℕ) → block < 256 ^ 8 → unpad_of n block ≡ Some x → x < 256 ^ n
     unpad-below block x fits made =
         rw (parts block x made).0 ((div-lt_iff_lt-mul (one-le-pow (8 - n) 256 (omega arith))).1 (rw block_size at fits))
 
-    pub pad-unpad : (block x : ℕ) → block < 256 ^ 8 → unpad_of n block ≡ Number x → pad_of n x ≡ block
+    pub pad-unpad : (block x : ℕ) → block < 256 ^ 8 → unpad_of n block ≡ Some x → pad_of n x ≡ block
     pad-unpad block x fits made =
         pad_sum x
         ∙ ap₂ (λ (q r : ℕ). q * 256 ^ (8 - n) + r)

@@ -2,6 +2,5 @@ pub mod Every
 pub mod Numbers
 pub mod Places
 pub mod Padding
-pub mod Readings
 pub mod NoChoice
 pub mod Inverse

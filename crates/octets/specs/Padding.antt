@@ -1,9 +1,7 @@
 -- Padding fills up to 8 bytes with the count of bytes added: 5 bytes get three 03, 4 bytes get four 04.
-use Rattle.std.specs.Prelude.{Bool, cond, List, ◌++◌, ℕ, ◌-◌, ◌/◌, ◌^◌, eqb, length, drop, replicate}
+use Rattle.std.specs.Prelude.{Bool, cond, List, ◌++◌, ℕ, ◌-◌, ◌/◌, ◌^◌, eqb, length, drop, replicate, None, Option, Some}
 use Rattle.octets.specs.Numbers.{bytes_of, bytes_number}
 use Rattle.octets.specs.Every.{all_of}
-use Rattle.octets.specs.declared.numbers.Reading.{Reading}
-use Rattle.octets.specs.declared.numbers.Reading.TheVariants.{Number, Wrong}
 
 -- s filled up to 8 bytes with the count of bytes added
 unfoldable pub padded : List ℕ → List ℕ
@@ -18,5 +16,5 @@ unfoldable pub is_padded : ℕ → ℕ → Bool
 is_padded n block = all_of (λ (b : ℕ). eqb b (8 - n)) (drop n (bytes_of 8 block))
 
 -- the number of n bytes that the block was made of
-unfoldable pub unpad_of : ℕ → ℕ → Reading
-unpad_of n block = cond (is_padded n block) (Number (block / 256 ^ (8 - n))) Wrong
+unfoldable pub unpad_of : ℕ → ℕ → Option ℕ
+unpad_of n block = cond (is_padded n block) (Some (block / 256 ^ (8 - n))) None

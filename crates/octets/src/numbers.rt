@@ -3,13 +3,6 @@ ghost use Rattle.std.specs.Prelude.{◌≡◌, ◌+◌, ◌≤◌, leb, length};
 ghost use Rattle.octets.specs.Numbers.{bytes_of};
 ghost use Rattle.octets.specs.Places.{number_at};
 
-// A number that was read, or Wrong where the bytes are none.
-#[derive(Clone, Copy)]
-pub enum Reading {
-    Number(u64),
-    Wrong,
-}
-
 // Whether n bytes from place at lie within s.
 pub fn lies_within(s: &[u8], at: usize, n: usize) -> bool
     ensures { result ≡ leb (at + n) (length s.now) }
@@ -17,7 +10,8 @@ pub fn lies_within(s: &[u8], at: usize, n: usize) -> bool
     at <= s.len() && n <= s.len() - at
 }
 
-// The number of one, two, four, five or eight bytes that lie within s.
+// The number of one, two, four, five or eight bytes that lie within s. Each is made of smaller ones, and has the type that holds it: a function over
+// the count would answer all of them in 64 bits, and five bytes have no type of their own.
 fn one_byte(s: &[u8], at: usize) -> u8
     requires { at + 1 ≤ length s.now }
     ensures { result ≡ number_at 1 s.now at }
@@ -105,46 +99,27 @@ pub fn number64(s: &[u8], at: usize) -> u64
 pub fn bytes16(x: u16) -> [u8; 2]
     ensures { result ≡ bytes_of 2 x }
 {
-    [(x / 256 % 256) as u8, (x % 256) as u8]
+    x.to_be_bytes()
 }
 
 // The four bytes of x.
 pub fn bytes32(x: u32) -> [u8; 4]
     ensures { result ≡ bytes_of 4 x }
 {
-    [
-        (x / 16777216 % 256) as u8,
-        (x / 65536 % 256) as u8,
-        (x / 256 % 256) as u8,
-        (x % 256) as u8,
-    ]
+    x.to_be_bytes()
 }
 
 // The low five bytes of x.
 pub fn bytes40(x: u64) -> [u8; 5]
     ensures { result ≡ bytes_of 5 x }
 {
-    [
-        (x / 4294967296 % 256) as u8,
-        (x / 16777216 % 256) as u8,
-        (x / 65536 % 256) as u8,
-        (x / 256 % 256) as u8,
-        (x % 256) as u8,
-    ]
+    let [_, _, _, a, b, c, d, e] = x.to_be_bytes();
+    [a, b, c, d, e]
 }
 
 // The eight bytes of x.
 pub fn bytes64(x: u64) -> [u8; 8]
     ensures { result ≡ bytes_of 8 x }
 {
-    [
-        (x / 72057594037927936 % 256) as u8,
-        (x / 281474976710656 % 256) as u8,
-        (x / 1099511627776 % 256) as u8,
-        (x / 4294967296 % 256) as u8,
-        (x / 16777216 % 256) as u8,
-        (x / 65536 % 256) as u8,
-        (x / 256 % 256) as u8,
-        (x % 256) as u8,
-    ]
+    x.to_be_bytes()
 }

@@ -12,3 +12,4 @@ pub mod TextsAt
 pub mod AtOnce
 pub mod SameTexts
 pub mod NumbersAt
+pub mod NumbersIn

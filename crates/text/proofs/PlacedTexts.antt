@@ -1,8 +1,8 @@
 -- Texts put at a place of a slice: what stands there, byte by byte from either end, and how neighbours join.
 -- Assumes nothing.
-use Rattle.std.proofs.Common.{◌≡◌, ℕ, suc, ◌+◌, ◌<◌, ◌≤◌, leb, List, [], ◌∷◌, ◌++◌, length, take, drop, set, sym, ap, ◌∙◌, append_assoc, append-nil, add-zero, add-suc, suc-add, zero-add, arith, length-append, length-drop, length-set, take-append-drop, drop_of_length-le, length-take-le, take-suc-set, drop-set-lt, le-leb, leb-false, leb-true}
+use Rattle.std.proofs.Common.{◌≡◌, ℕ, suc, ◌+◌, ◌<◌, ◌≤◌, leb, List, [], ◌∷◌, ◌++◌, length, take, drop, set, sym, ap, ap₂, ◌∙◌, drop-drop, append_assoc, append-nil, add-zero, add-suc, suc-add, zero-add, arith, length-append, length-drop, length-set, take-append-drop, drop_of_length-le, length-take-le, take-suc-set, drop-set-lt, le-leb, leb-false, leb-true}
 use borrow.Author.Tests.{lt-leb}
-use lib.Seq.{set_comm}
+use borrow.Rule.Slice.PartMut.{put_mid}
 use Rattle.octets.proofs.Every.{either}
 use Rattle.text.specs.Texts.{placed}
 
@@ -22,6 +22,13 @@ module _ (at : ℕ) (t s : List ℕ) where
       ap length (placed-within h)
       ∙ simp (length-append, length-drop) (omega (arith, length-take-le at s (omega arith))))
       (λ e. ap length (placed_beyond (leb-false _ _ e)))
+
+-- a part of the text's length, written over with the text
+pub placed_mid : (at k : ℕ) (s new t : List ℕ) → at + length t ≤ length s → k ≡ length t → new ≡ t → put_mid at k s new ≡ placed at t s
+placed_mid at k s new t within count is =
+    ap₂ (λ (m : ℕ) (l : List ℕ). put_mid at m s l) count is
+    ∙ ap (λ (l : List ℕ). take at s ++ (t ++ l)) (drop-drop (length t) at s)
+    ∙ sym (placed-within at t s within)
 
 pub placed_none : (at : ℕ) (s : List ℕ) → placed at [] s ≡ s
 placed_none at s =
@@ -45,20 +52,6 @@ placed_first at v t s h =
     ∙ rw (take-suc-set s at v (omega arith), drop-set-lt (suc at + length t) s at v (omega arith), append_assoc)
     (ap (λ (n : ℕ). take at s ++ (v ∷ (t ++ drop n s))) (suc-add at (length t) ∙ sym (add-suc at (length t))))
     ∙ sym (placed-within at (v ∷ t) s h)
-
--- the last byte, and then those before it
-pub placed_last : (at v : ℕ) (t s : List ℕ) → at + suc (length t) ≤ length s → placed at t (set s (at + length t) v) ≡ placed at (t ++ (v ∷ [])) s
-placed_last at v [] s h =
-    placed_none at (set s (at + 0) v)
-    ∙ ap (λ (n : ℕ). set s n v) (add-zero at)
-    ∙ sym (placed_none (suc at) (set s at v))
-    ∙ placed_first at v [] s h
-placed_last at v (w ∷ t) s h =
-    sym (placed_first at w t (set s (at + suc (length t)) v) (simp length-set (omega arith)))
-    ∙ ap (placed (suc at) t) (set_comm s (at + suc (length t)) at v w (λ e. omega arith))
-    ∙ ap (λ (n : ℕ). placed (suc at) t (set (set s at w) n v)) (add-suc at (length t) ∙ sym (suc-add at (length t)))
-    ∙ placed_last (suc at) v t (set s at w) (simp length-set (omega arith))
-    ∙ placed_first at w (t ++ (v ∷ [])) s (simp length-append (omega arith))
 
 -- a text and one put after it are one text
 pub placed-next : (at n : ℕ) (t u s : List ℕ) → n ≡ at + length t → at + (length t + length u) ≤ length s

@@ -1,9 +1,10 @@
 -- The test of two texts, byte for byte, is that they are equal; and how it goes along them.
 -- Assumes nothing.
-use Rattle.std.proofs.Common.{◌≡◌, ℕ, ◌+◌, ◌-◌, ◌<◌, ◌≤◌, true, false, ◌&&◌, eqb, List, [], ◌∷◌, length, get_or, drop, sym, refl, ap, ◌∙◌, ap₂, add-one, arith, length-drop, drop_of_length-le, length-take, drop-cons, eq-eqb, ne_eqb, eqb-true}
+use Rattle.std.proofs.Common.{◌≡◌, ℕ, ◌+◌, ◌-◌, ◌<◌, true, false, eqb, List, [], ◌∷◌, length, drop, slice_range, take_all, le_refl, sym, refl, ap, ◌∙◌, ap₂, arith, length-drop, length-take, eq-eqb, ne_eqb, eqb-true}
+use lib.Pointwise.{pointwise}
+use Rattle.std.specs.List.{starts_with}
 use Rattle.octets.proofs.Every.{and_first, and_second, either}
 use Rattle.text.specs.Texts.{part, same_text, stands_at}
-use Rattle.text.proofs.TextsAt.{part_first}
 
 pub same_true : (s t : List ℕ) → same_text s t ≡ true → s ≡ t
 unfolding same_text
@@ -32,41 +33,19 @@ stands_beyond (b ∷ t) s at beyond =
     differ_same (part (length (b ∷ t)) s at) (b ∷ t) (λ same. omega (arith, simp (length-take, length-drop) at (ap length same)))
     ∙ sym (ne_eqb (length (b ∷ t)) 0 (λ none. omega arith))
 
--- the text t stands at the place exactly where what is left of it after i bytes stands at + i
-pub record StandsFrom (t s : List ℕ) (at i : ℕ) : Type 0 where
-  pub within : at + length t ≤ length s
-  pub count : i ≤ length t
-  pub same : stands_at t s at ≡ same_text (part (length t - i) s (at + i)) (drop i t)
+equal_either_way : (a b : ℕ) → eqb a b ≡ eqb b a
+equal_either_way a b = either (eqb a b) (λ same. rw (eq-eqb b a (sym (eqb-true a b same)), same)) (λ other. rw (ne_eqb b a (λ e. cc (rw (eq-eqb a b (sym e)) at other)), other))
 
-module _ {t s : List ℕ} {at : ℕ} where
-  pub stands_start : at + length t ≤ length s → StandsFrom t s at 0
-  stands_start within =
-      let whole : length t ≡ length t - 0 = omega arith in
-      let here : at ≡ at + 0 = omega arith in
-      record {
-        within = within;
-        count = omega arith;
-        same = ap₂ (λ (m k : ℕ). same_text (part m s k) t) whole here;
-      }
+-- the test is the library's, the other way round
+same_pointwise : (s t : List ℕ) → same_text s t ≡ pointwise eqb t s
+unfolding same_text
+same_pointwise [] [] = refl
+same_pointwise [] (b ∷ t) = refl
+same_pointwise (a ∷ s) [] = refl
+same_pointwise (a ∷ s) (b ∷ t) = rw (same_pointwise s t, equal_either_way a b)
 
-  module _ {i : ℕ} (from : StandsFrom t s at i) where
-    pub stands-end : length t ≤ i → stands_at t s at ≡ true
-    unfolding same_text
-    stands-end done =
-        let none : length t - i ≡ 0 = omega arith in
-        from.same ∙ ap₂ (λ (k : ℕ) (l : List ℕ). same_text (part k s (at + i)) l) none (drop_of_length-le t done)
-
-    module _ (more : i < length t) where
-      first : stands_at t s at ≡ (eqb (get_or s (at + i) 0) (get_or t i 0) && same_text (part (length t - (i + 1)) s (at + (i + 1))) (drop (i + 1) t))
-      unfolding same_text
-      first =
-          from.same
-          ∙ ap₂ same_text (part_first (length t) s at i from.within more)
-          (drop-cons t i 0 more ∙ ap (λ (k : ℕ). get_or t i 0 ∷ drop k t) (sym (add-one i)))
-
-      pub stands-next : get_or s (at + i) 0 ≡ get_or t i 0 → StandsFrom t s at (i + 1)
-      stands-next e =
-          record { within = from.within; count = omega arith; same = rw (eq-eqb (get_or s (at + i) 0) (get_or t i 0) e) at first }
-
-      pub stands-wrong : (get_or s (at + i) 0 ≡ get_or t i 0 → ⊥) → stands_at t s at ≡ false
-      stands-wrong ne = rw (ne_eqb (get_or s (at + i) 0) (get_or t i 0) ne) at first
+-- a text stands at a place exactly where what is left from there starts with it
+pub stands_first : (t s : List ℕ) (at : ℕ) → starts_with eqb (slice_range s at (length s)) t ≡ stands_at t s at
+stands_first t s at =
+    let left : slice_range s at (length s) ≡ drop at s = take_all (length s - at) (drop at s) (simp length-drop (le_refl (length s - at))) in
+    ap (λ (l : List ℕ). starts_with eqb l t) left ∙ sym (same_pointwise (part (length t) s at) t)

@@ -2,8 +2,9 @@
 -- Assumes nothing.
 use Rattle.std.proofs.Common.{◌≡◌, ℕ, zero, suc, ◌+◌, ◌-◌, ◌<◌, ◌≤◌, Bool, true, false, ◌&&◌, leb, List, [], ◌∷◌, ◌++◌, length, get_or, take, drop, sym, refl, ap, ◌∙◌, ap₂, add-one, arith, length-append, get_or-drop, drop-cons, get_or-take, take-take, drop-drop, take_at, take-add, drop_at, le-leb, leb-true}
 use borrow.Author.Tests.{lt-leb}
+use Rattle.std.specs.List.{list_all, slice_range}
 use Rattle.octets.specs.Every.{all_of}
-use Rattle.octets.proofs.Every.{and_first, and_second, either, all_at_lem}
+use Rattle.octets.proofs.Every.{and_first, and_second, either, all_at_lem, all_is_list_all}
 use Rattle.octets.proofs.Places.{part_length}
 use Rattle.text.specs.Texts.{part, all_at}
 
@@ -34,6 +35,13 @@ part-within n (suc m) (c ∷ s) (suc at) h = part-within n m s at (omega arith)
 -- and of the m from a place on
 pub part_of_part : (n m : ℕ) (s : List ℕ) (at k : ℕ) → k + n ≤ m → part n (part m s at) k ≡ part n s (at + k)
 part_of_part n m s at k h = part-within n m (drop at s) k h ∙ ap (take n) (drop-drop k at s)
+
+-- what the library tests of a range is the test at its place
+pub range_all : (test : ℕ → Bool) (n : ℕ) (s : List ℕ) (at : ℕ) → at + n ≤ length s → list_all test (slice_range s at (at + n)) ≡ all_at test n s at
+unfolding all_at
+range_all test n s at within =
+    let count : at + n - at ≡ n = omega arith in
+    rw (le-leb (at + n) (length s) within, count) (sym (all_is_list_all test (part n s at)))
 
 -- where the first m bytes are the same, so is what stands among them
 module _ (m : ℕ) (s t : List ℕ) (same : take m s ≡ take m t) where
@@ -103,38 +111,3 @@ module _ (test : ℕ → Bool) (n m : ℕ) (s : List ℕ) (at : ℕ) where
   all_right all =
       all_at_place test m s (at + n) (omega (arith, all_within test (n + m) s at all))
       (and_second (all_of test (part n s at)) (all_of test (part m s (at + n))) (both all))
-
--- the test of the bytes from place at is that of those from place at + i, all before having passed
-pub record AllFrom (test : ℕ → Bool) (n : ℕ) (s : List ℕ) (at i : ℕ) : Type 0 where
-  pub within : at + n ≤ length s
-  pub count : i ≤ n
-  pub same : all_at test n s at ≡ all_of test (part (n - i) s (at + i))
-
-module _ {test : ℕ → Bool} {n : ℕ} {s : List ℕ} {at : ℕ} where
-  pub from_start : at + n ≤ length s → AllFrom test n s at 0
-  from_start within =
-      let whole : n ≡ n - 0 = omega arith in
-      let here : at ≡ at + 0 = omega arith in
-      record {
-        within = within;
-        count = omega arith;
-        same = all_inside test n s at within ∙ ap₂ (λ (m k : ℕ). all_of test (part m s k)) whole here;
-      }
-
-  module _ {i : ℕ} (from : AllFrom test n s at i) where
-    pub from_end : n ≤ i → all_at test n s at ≡ true
-    unfolding all_of
-    from_end done =
-        let none : n - i ≡ 0 = omega arith in
-        from.same ∙ ap (λ (k : ℕ). all_of test (part k s (at + i))) none
-
-    module _ (more : i < n) where
-      first : all_at test n s at ≡ (test (get_or s (at + i) 0) && all_of test (part (n - (i + 1)) s (at + (i + 1))))
-      unfolding all_of
-      first = from.same ∙ ap (all_of test) (part_first n s at i from.within more)
-
-      pub from_next : test (get_or s (at + i) 0) ≡ true → AllFrom test n s at (i + 1)
-      from_next good = record { within = from.within; count = omega arith; same = rw good at first }
-
-      pub from_wrong : test (get_or s (at + i) 0) ≡ false → all_at test n s at ≡ false
-      from_wrong bad = rw bad at first

@@ -1,4 +1,5 @@
 pub mod Ascii
 pub mod Characters
 pub mod Texts
+pub mod Bases
 pub mod Inverse

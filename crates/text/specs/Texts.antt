@@ -1,8 +1,6 @@
 -- Texts at places of a slice: their alphabet, the numbers that they are, and how they are put there.
-use Rattle.std.specs.Prelude.{ℕ, zero, suc, ◌+◌, ◌/◌, Bool, true, false, cond, ◌&&◌, List, [], ◌∷◌, ◌++◌, length, take, drop, ◌==◌, nat_le, nat_lt}
+use Rattle.std.specs.Prelude.{ℕ, zero, suc, ◌+◌, ◌/◌, Bool, true, false, cond, ◌&&◌, List, [], ◌∷◌, ◌++◌, length, take, drop, ◌==◌, nat_le, nat_lt, None, Option, Some}
 use Rattle.octets.specs.Every.{all_of}
-use Rattle.octets.specs.declared.numbers.Reading.{Reading}
-use Rattle.octets.specs.declared.numbers.Reading.TheVariants.{Number, Wrong}
 use Rattle.text.specs.Characters.{is_digit, is_hex, hex_number, decimal_text, decimal_number}
 
 -- the n bytes of s from place at
@@ -14,12 +12,12 @@ unfoldable pub all_at : (ℕ → Bool) → ℕ → List ℕ → ℕ → Bool
 all_at test n s at = nat_le (at + n) (length s) && all_of test (part n s at)
 
 -- the number of the n hex characters from place at; 16 characters are a number of 64 bits, and no more are read
-unfoldable pub hex_at : ℕ → List ℕ → ℕ → Reading
-hex_at n s at = cond (nat_le n 16 && all_at is_hex n s at) (Number (hex_number (part n s at))) Wrong
+unfoldable pub hex_at : ℕ → List ℕ → ℕ → Option ℕ
+hex_at n s at = cond (nat_le n 16 && all_at is_hex n s at) (Some (hex_number (part n s at))) None
 
 -- the same of digits, of which a number of 64 bits holds 19
-unfoldable pub decimal_at : ℕ → List ℕ → ℕ → Reading
-decimal_at n s at = cond (nat_le n 19 && all_at is_digit n s at) (Number (decimal_number (part n s at))) Wrong
+unfoldable pub decimal_at : ℕ → List ℕ → ℕ → Option ℕ
+decimal_at n s at = cond (nat_le n 19 && all_at is_digit n s at) (Some (decimal_number (part n s at))) None
 
 -- two texts are the same, byte for byte
 unfoldable pub same_text : List ℕ → List ℕ → Bool

@@ -87,7 +87,8 @@ fn letter_value(c: u8) -> u8
     }
 }
 
-// 0 to 15, of a hex character in either case; 16 for any other byte. A capital has its small letter's bits but one, which is set in both.
+// 0 to 15, of a hex character in either case; 16 for any other byte, as the definition has it: one compare tells, and no Option is taken apart for each
+// character. A capital has its small letter's bits but one, which is set in both.
 // The letter is looked at first, so that the compiler chooses between two values: a branch between digits and letters would never be foreseen.
 pub fn hex_value(c: u8) -> u8
     ensures { result ≡ hex_value c }
@@ -108,7 +109,7 @@ pub fn hex_character(v: u8) -> u8
     }
 }
 
-// 0 to 9; 10 for a byte that is no digit.
+// 0 to 9; 10 for a byte that is no digit, as the definition has it.
 pub fn digit_value(c: u8) -> u8
     ensures { result ≡ digit_value c }
 {

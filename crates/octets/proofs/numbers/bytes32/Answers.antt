@@ -1,8 +1,7 @@
 -- `octets::numbers::bytes32` meets its contract. Assumes nothing.
-use native.Mathlib.Nat.{div-one}
-use Rattle.octets.specs.Numbers.{digits}
+use mathlib.Core.Path.{◌∙◌}
+use Rattle.octets.proofs.Digits.{bytes_are_digits}
 use Rattle.octets.proofs.numbers.bytes32.Goals as goal
 
 pub returns : goal.returns
-unfolding digits
-returns c = rw div-one
+returns c = c.to_be_bytes.ensures ∙ bytes_are_digits 4 _
