@@ -1,28 +1,12 @@
 -- The days left until an expiry, and the notice of a permit. Dates are numbers YYYYMMDD.
-use Rattle.std.specs.Prelude.{ℕ, suc, Bool, cond, ◌&&◌, leb, ltb, eqb, ℤ, pos, negsuc, neg_ℤ, ◌-ℤ◌}
+use Rattle.std.specs.Prelude.{ℕ, Bool, cond, ◌&&◌, leb, ltb, eqb, ℤ, pos, negsuc, ◌-ℤ◌}
 use Rattle.dates.specs.Calendar.{day_number}
-use Rattle.dates.specs.declared.DaysLeft.{DaysLeft}
-use Rattle.dates.specs.declared.DaysLeft.TheVariants.{Passed, Left}
 use Rattle.dates.specs.declared.Notice.{Notice}
 use Rattle.dates.specs.declared.Notice.TheVariants.{Current, Soon, Expired}
 
 -- the day number of the expiry less that of today: below zero when the date has passed
 unfoldable pub days_left : ℕ → ℕ → ℤ
 days_left today expiry = pos (day_number expiry) -ℤ pos (day_number today)
-
--- a number of days in the code's form: how many days ago, at least one, or how many are left
-unfoldable pub form_of : ℤ → DaysLeft
-form_of (negsuc n) = Passed (suc n)
-form_of (pos n) = Left n
-
--- the days left in that form
-unfoldable pub left_of : ℕ → ℕ → DaysLeft
-left_of today expiry = form_of (days_left today expiry)
-
--- what a value of that form means
-abbrev pub days_meant : DaysLeft → ℤ
-days_meant (Passed n) = neg_ℤ (pos n)
-days_meant (Left n) = pos n
 
 -- warning days are 1 to 90
 unfoldable pub is_days : ℕ → Bool

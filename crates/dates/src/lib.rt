@@ -3,35 +3,24 @@
 
 ghost use Rattle.std.specs.Prelude.{◌≡◌, ◌≤◌};
 ghost use Rattle.dates.specs.Calendar.{is_leap, days_in, within, is_date, days_before_month, day_number};
-ghost use Rattle.dates.specs.Notice.{days_left, left_of, is_days, notice_of, notice_number};
+ghost use Rattle.dates.specs.Notice.{days_left, is_days, notice_of, notice_number};
 
-// What an expiry says today.
+// What an expiry says today, each with the number that comes back for it.
 #[derive(Clone, Copy)]
 pub enum Notice {
-    Current,
-    Soon,
-    Expired,
+    Current = 0,
+    Soon = 20,
+    Expired = 15,
 }
 
-// How many days ago a date passed, at least one; or how many are left.
-#[derive(Clone, Copy)]
-pub enum DaysLeft {
-    Passed(u32),
-    Left(u32),
-}
-
+#[tactic(auto, unfolding(crate::specs::Calendar::is_leap))]
 fn is_leap(year: u32) -> bool
     ensures { result ≡ is_leap year }
 {
-    if year % 400 == 0 {
-        return true;
-    }
-    if year % 100 == 0 {
-        return false;
-    }
-    year % 4 == 0
+    year % 4 == 0 && year % 100 != 0 || year % 400 == 0
 }
 
+#[tactic(auto, using(crate::proofs::Months::february, crate::proofs::Months::thirty, crate::proofs::Months::thirty_one))]
 fn days_in(year: u32, month: u32) -> u32
     requires { (1 ≤ month) × (month ≤ 12) }
     ensures { result ≡ days_in year month }
@@ -43,16 +32,15 @@ fn days_in(year: u32, month: u32) -> u32
     }
 }
 
+#[tactic(auto, unfolding(crate::specs::Calendar::within))]
 fn within(low: u32, high: u32, n: u32) -> bool
     ensures { result ≡ within low high n }
 {
-    if n < low {
-        return false;
-    }
-    n <= high
+    low <= n && n <= high
 }
 
 // Whether a number is a date of the years 1900 to 2999. Every month has 28 days: its length is asked for beyond them alone.
+#[tactic(auto, using(crate::proofs::Months::early_day, crate::proofs::Months::late_day, crate::proofs::Bounds::bounds), unfolding(crate::specs::Calendar::is_date, crate::specs::Calendar::year, crate::specs::Calendar::month, crate::specs::Calendar::day))]
 pub fn is_date(date: u32) -> bool
     ensures { result ≡ is_date date }
 {
@@ -83,7 +71,8 @@ fn days_before_month(year: u32, month: u32) -> u32
     if is_leap(year) { days - 1 } else { days - 2 }
 }
 
-// Dates in their order have day numbers in theirs, with no gap; a number that is no date has 0.
+// Dates in their order have day numbers in theirs, with no gap; a number that is no date has 0, by which the definition counts days left from any number.
+#[tactic(auto, using(crate::proofs::Parts::date_parts, crate::proofs::Parts::number_of_date, crate::proofs::Parts::number_of_none, crate::proofs::Months::month_start_small), unfolding(crate::specs::Calendar::year, crate::specs::Calendar::month, crate::specs::Calendar::day, crate::specs::Calendar::multiples_below, crate::specs::Calendar::days_before_year))]
 pub fn day_number(date: u32) -> u32
     ensures { result ≡ day_number date }
 {
@@ -96,19 +85,16 @@ pub fn day_number(date: u32) -> u32
     365 * year + leaps + before + date % 100
 }
 
-pub fn days_left(today: u32, expiry: u32) -> DaysLeft
-    ensures { result ≡ left_of today expiry }
+// The days until an expiry, which are below zero once it has passed.
+#[tactic(auto, using(crate::proofs::Left::number_small, std::proofs::lemmas::Int::ints), unfolding(crate::specs::Notice::days_left))]
+pub fn days_left(today: u32, expiry: u32) -> i32
+    ensures { result ≡ days_left today expiry }
 {
-    let from = day_number(today);
-    let to = day_number(expiry);
-    if to < from {
-        DaysLeft::Passed(from - to)
-    } else {
-        DaysLeft::Left(to - from)
-    }
+    day_number(expiry) as i32 - day_number(today) as i32
 }
 
 // Whether a number is warning days.
+#[tactic(auto, unfolding(crate::specs::Notice::is_days))]
 pub fn is_days(days: u32) -> bool
     ensures { result ≡ is_days days }
 {
@@ -116,21 +102,20 @@ pub fn is_days(days: u32) -> bool
 }
 
 // A subscription (service level 0) is expired once the date has passed, and soon while less than the warning days are left.
+#[tactic(auto, using(crate::proofs::Levels::no_subscription))]
 pub fn notice_of(level: u32, today: u32, expiry: u32, days: u32) -> Notice
     ensures { result ≡ notice_of level (days_left today expiry) days }
 {
     if 0 < level {
         return Notice::Current;
     }
-    match days_left(today, expiry) {
-        DaysLeft::Passed(_) => Notice::Expired,
-        DaysLeft::Left(n) => {
-            if n < days {
-                Notice::Soon
-            } else {
-                Notice::Current
-            }
-        }
+    let Ok(left) = u32::try_from(days_left(today, expiry)) else {
+        return Notice::Expired;
+    };
+    if left < days {
+        Notice::Soon
+    } else {
+        Notice::Current
     }
 }
 
@@ -138,9 +123,5 @@ pub fn notice_of(level: u32, today: u32, expiry: u32, days: u32) -> Notice
 pub fn notice_number(notice: Notice) -> u32
     ensures { result ≡ notice_number notice }
 {
-    match notice {
-        Notice::Current => 0,
-        Notice::Soon => 20,
-        Notice::Expired => 15,
-    }
+    notice as u32
 }
