@@ -1,5 +1,6 @@
 -- CRC-32 bit by bit: reflected, polynomial EDB88320, start all ones, final complement.
-use Rattle.std.specs.Prelude.{List, [], ◌∷◌, ℕ, zero, suc, ◌-◌, ◌*◌, ◌/◌, ◌%◌}
+use Rattle.std.specs.Prelude.{List, ℕ, zero, suc, ◌-◌, ◌*◌, ◌/◌, ◌%◌}
+use Rattle.std.specs.List.{fold}
 use Rattle.std.specs.Int.Bits.{bit_xor}
 
 -- the polynomial, its bits in the reflected order
@@ -25,8 +26,7 @@ feed c b = shifts 8 (bit_xor c b)
 
 -- byte after byte
 unfoldable pub feed_all : ℕ → List ℕ → ℕ
-feed_all c [] = c
-feed_all c (b ∷ s) = feed_all (feed c b) s
+feed_all c s = fold feed c s
 
 -- CRC-32 of the bytes
 unfoldable pub crc32_of : List ℕ → ℕ

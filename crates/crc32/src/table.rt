@@ -1,7 +1,8 @@
 // The table of CRC-32. No reader has to trust its numbers: they are proved to follow its rule.
-ghost use Rattle.crc32.specs.Table.{IsTable};
+ghost use Rattle.std.specs.Prelude.{◌≡◌, ◌%◌, ◌<◌};
+ghost use Rattle.crc32.specs.Table.{digit_out, IsTable};
 
-const TABLE: [u32; 128] = [
+const ENTRIES: [u32; 128] = [
     0x00000000, 0xb8bc6765, 0xaa09c88b, 0x12b5afee, 0x8f629757, 0x37def032, 0x256b5fdc, 0x9dd738b9,
     0xc5b428ef, 0x7d084f8a, 0x6fbde064, 0xd7018701, 0x4ad6bfb8, 0xf26ad8dd, 0xe0df7733, 0x58631056,
     0x00000000, 0x5019579f, 0xa032af3e, 0xf02bf8a1, 0x9b14583d, 0xcb0d0fa2, 0x3b26f703, 0x6b3fa09c,
@@ -20,9 +21,24 @@ const TABLE: [u32; 128] = [
     0xedb88320, 0xf00f9344, 0xd6d6a3e8, 0xcb61b38c, 0x9b64c2b0, 0x86d3d2d4, 0xa00ae278, 0xbdbdf21c,
 ];
 
-// The table, as a local of the caller: a constant is copied each time it is read.
-pub(crate) fn table() -> [u32; 128]
-    ensures { IsTable result }
-{
-    TABLE
+// The table, which says of itself that it follows its rule.
+#[derive(Drop)]
+pub(crate) struct Table {
+    entries: [u32; 128],
+    ghost ruled: { IsTable entries },
+}
+
+impl Table {
+    // A local of the caller, lent from there on: a constant is copied each time it is read.
+    pub(crate) fn new() -> Table {
+        Table { entries: ENTRIES }
+    }
+
+    // The low hex digit of x goes out from a place of a word.
+    pub(crate) fn digit_out(&self, place: usize, x: u32) -> u32
+        requires { place < 8 }
+        ensures { result ≡ digit_out place (x % 16) }
+    {
+        self.entries[16 * place + (x % 16) as usize]
+    }
 }

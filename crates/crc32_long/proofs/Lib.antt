@@ -1,3 +1,3 @@
 pub mod Lookup
-pub mod Streams
+pub mod FourStreams
 pub mod Sixteens

@@ -1,7 +1,8 @@
 // The table of CRC-32 for long texts. No reader has to trust its numbers: they are proved to follow its rule.
-ghost use Rattle.crc32_long.specs.Streams.{IsTable};
+ghost use Rattle.std.specs.Prelude.{◌≡◌, ◌%◌, ◌<◌};
+ghost use Rattle.crc32_long.specs.Streams.{byte_out, IsTable};
 
-const TABLE: [u32; 1024] = [
+const ENTRIES: [u32; 1024] = [
     0x00000000, 0xae689191, 0x87a02563, 0x29c8b4f2, 0xd4314c87, 0x7a59dd16, 0x539169e4, 0xfdf9f875,
     0x73139f4f, 0xdd7b0ede, 0xf4b3ba2c, 0x5adb2bbd, 0xa722d3c8, 0x094a4259, 0x2082f6ab, 0x8eea673a,
     0xe6273e9e, 0x484faf0f, 0x61871bfd, 0xcfef8a6c, 0x32167219, 0x9c7ee388, 0xb5b6577a, 0x1bdec6eb,
@@ -132,9 +133,24 @@ const TABLE: [u32; 1024] = [
     0x409d8afe, 0x9d0b537b, 0x20c13fb5, 0xfd57e630, 0x8024e068, 0x5db239ed, 0xe0785523, 0x3dee8ca6,
 ];
 
-// The table, as a local of the caller: a constant is copied each time it is read.
-pub(crate) fn table() -> [u32; 1024]
-    ensures { IsTable result }
-{
-    TABLE
+// The table, which says of itself that it follows its rule.
+#[derive(Drop)]
+pub(crate) struct Table {
+    entries: [u32; 1024],
+    ghost ruled: { IsTable entries },
+}
+
+impl Table {
+    // A local of the caller, lent from there on: a constant is copied each time it is read.
+    pub(crate) fn new() -> Table {
+        Table { entries: ENTRIES }
+    }
+
+    // The low byte of x goes out from a place of a word. Its like in crc32 goes by a table of another size and rule: one type of both would be no plainer.
+    pub(crate) fn byte_out(&self, place: usize, x: u32) -> u32
+        requires { place < 4 }
+        ensures { result ≡ byte_out place (x % 256) }
+    {
+        self.entries[256 * place + (x % 256) as usize]
+    }
 }

@@ -1,4 +1,4 @@
--- `crc32::table::table` meets its contract: one computed test of the whole table.
+-- `crc32::table::Table::new` makes a table that follows its rule: one computed test of the whole table.
 use mathlib.Core.Path.{◌≡◌, refl, ap₂, ◌∙◌}
 use mathlib.Core.Bool.{Bool}
 use mathlib.Core.List.{List}
@@ -9,7 +9,7 @@ use lib.ListN.{length, get_or}
 use Rattle.octets.proofs.Tables.{each, at_each}
 use Rattle.crc32.specs.Crc32.{shift, shifts}
 use Rattle.crc32.specs.Table.{digit_out, IsTable}
-use Rattle.crc32.proofs.table.table.Goals as goal
+use Rattle.crc32.proofs.table.Table.new.Goals as goal
 
 right : ℕ → ℕ → Bool
 right k x = eqb x (digit_out (k / 16) (k % 16))
@@ -26,6 +26,6 @@ tested t long passed = record { entry = at }
         let within : k < length t = omega (arith, long) in
         eqb→eq (get_or t k 0) (digit_out (k / 16) (k % 16)) (at_each right t passed k within) ∙ ap₂ digit_out p q
 
-pub returns : goal.returns
+pub invariant_of-result : goal.invariant_of-result
 unfolding right shifts shift
-returns c = tested _ refl tt
+invariant_of-result c = record { ruled = tested _ refl tt }

@@ -1,4 +1,4 @@
--- `crc32_long::table::table` meets its contract: a computed test of the whole table, each hex digit's entry by the rule and each byte's by its digits.
+-- `crc32_long::table::Table::new` makes a table that follows its rule: a computed test of the whole table, each hex digit's entry by the rule and each byte's by its digits.
 use mathlib.Core.Path.{◌≡◌, ap₂, sym, ◌∙◌}
 use mathlib.Core.Bool.{Bool}
 use mathlib.Core.List.{List}
@@ -11,7 +11,7 @@ use Rattle.octets.proofs.Tables.{each, computed}
 use Rattle.crc32.specs.Crc32.{shift, shifts}
 use Rattle.crc32_long.specs.Streams.{byte_out, IsTable}
 use Rattle.crc32_long.proofs.Lookup.{high_out, byte_by_digits}
-use Rattle.crc32_long.proofs.table.table.Goals as goal
+use Rattle.crc32_long.proofs.table.Table.new.Goals as goal
 
 -- where the entry of a byte's low digit stands
 abbrev low : ℕ → ℕ → ℕ
@@ -61,6 +61,6 @@ tested t lows highs bytes = record { entry = at }
         (ap₂ (λ (i m : ℕ). get_or t (high i (m / 16)) 0) p q ∙ at_digit t high high_out highs place (n / 16) hp (omega arith))
         ∙ sym (byte_by_digits place n hp hn)
 
-pub returns : goal.returns
+pub invariant_of-result : goal.invariant_of-result
 unfolding by_rule by_digits shifts shift
-returns c = tested _ tt tt tt
+invariant_of-result c = record { ruled = tested _ tt tt tt }
