@@ -1,19 +1,10 @@
--- For inner contracts alone: P as an array of its own, four blocks side by side, and blocks put one after the other.
+-- For inner contracts alone: four blocks side by side, and blocks put one after the other.
 use Rattle.std.specs.Prelude.{List, [], ◌∷◌, ◌++◌, ℕ, zero, suc, ◌+◌, ◌*◌, get_or, take, drop}
 use Rattle.octets.specs.Numbers.{bytes_of}
 use Rattle.octets.specs.Places.{number_at}
-use Rattle.blowfish.specs.Cipher.{F, P, cipher, block_of, block_number}
+use Rattle.blowfish.specs.Cipher.{F, cipher, block_of, block_number}
 use Rattle.blowfish.specs.declared.Block.{Block}
 use Rattle.blocks.specs.declared.Four.{Four}
-
--- p k, p (k + 1), .. as a list of n words
-unfoldable pub list_from : (ℕ → ℕ) → ℕ → ℕ → List ℕ
-list_from p k zero = []
-list_from p k (suc n) = p k ∷ list_from p (suc k) n
-
--- the eighteen words of P
-abbrev pub eighteen : (ℕ → ℕ) → List ℕ
-eighteen p = list_from p 0 18
 
 -- g done to each of four blocks
 abbrev pub each : (Block → Block) → Four → Four
@@ -33,8 +24,8 @@ first_four s = record {
 }
 
 -- a block as a number, with the words w and P in the order of p
-abbrev pub cipher_by : List ℕ → List ℕ → ℕ → ℕ
-cipher_by w p x = block_number (cipher (F w) (P p) (block_of x))
+abbrev pub cipher_by : List ℕ → (ℕ → ℕ) → ℕ → ℕ
+cipher_by w p x = block_number (cipher (F w) p (block_of x))
 
 -- the eight bytes of x put at a place
 unfoldable pub block_put : ℕ → ℕ → List ℕ → List ℕ

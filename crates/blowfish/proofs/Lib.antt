@@ -1,5 +1,4 @@
 pub mod Rounds
-pub mod KeyWords
 pub mod Keys
 pub mod BackAgain
 pub mod Words

@@ -1,5 +1,5 @@
 -- Blowfish on one block. The words of a key stand in one list: P1 to P18, then S1, S2, S3 and S4 of 256 each.
-use Rattle.std.specs.Prelude.{ℕ, zero, suc, ◌+◌, ◌-◌, ◌*◌, ◌/◌, ◌%◌, ◌^◌, List, bit_xor, slice_index}
+use Rattle.std.specs.Prelude.{◌≡◌, ℕ, zero, suc, ◌+◌, ◌-◌, ◌*◌, ◌/◌, ◌%◌, ◌^◌, ◌<◌, List, bit_xor, slice_index}
 use Rattle.blowfish.specs.declared.Block.{Block}
 
 -- P1 to P18: the word i, counted from 0
@@ -63,6 +63,10 @@ finish p17 p18 b = left_xor p18 (right_xor p17 (exchange b))
 -- sixteen rounds, and what follows them
 unfoldable pub cipher : (ℕ → ℕ) → (ℕ → ℕ) → Block → Block
 cipher f p b = finish (p 16) (p 17) (rounds f p 16 b)
+
+-- what may be given for each of the eighteen words of P is that of p
+abbrev pub GivesWords : (ℕ → ℕ → Type 0) → (ℕ → ℕ) → Type 0
+GivesWords gives p = (i w : ℕ) → i < 18 → gives i w → w ≡ p i
 
 -- P from the far end
 abbrev pub far_end : List ℕ → ℕ → ℕ

@@ -1,8 +1,0 @@
--- `blocks::near_p` meets its contract.
-use mathlib.Core.Path.{refl}
-use Rattle.blocks.specs.Fours.{list_from}
-use Rattle.blocks.proofs.near_p.Goals as goal
-
-pub returns : goal.returns
-unfolding list_from
-returns c = refl
