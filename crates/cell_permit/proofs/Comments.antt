@@ -1,7 +1,9 @@
 -- The comment is the part of a line from its place on, and the empty part at the line's start where there is none.
 -- Assumes nothing.
-use mathlib.Core.Path.{◌≡◌, refl, ap, ◌∙◌}
-use mathlib.Core.Bool.{Bool, true, false, cond}
+use Rattle.std.specs.Prelude.{Some, None}
+use Rattle.std.proofs.lemmas.Option.{cond_some}
+use mathlib.Core.Path.{◌≡◌, sym, ap, ◌∙◌}
+use mathlib.Core.Bool.{true, false}
 use mathlib.Core.List.{List}
 use Prim.Native.Nat.{ℕ, ◌+◌, ◌-◌}
 use native.Mathlib.Omega.{arith}
@@ -12,46 +14,27 @@ use Rattle.octets.specs.Places.{point_at}
 use Rattle.octets.proofs.Every.{either}
 use Rattle.text.specs.Characters.{is_printable}
 use Rattle.text.proofs.TextsAt.{all_within}
-use Rattle.cell_permit.specs.Line.{is_line, parts_of, shape_of, edition_length, comment_place, comment_of, comment_at, comment_start}
+use Rattle.cell_permit.specs.Line.{is_line, comment_place, comment_of, comment_at, comment_start}
 use Rattle.cell_permit.specs.Laws.{CommentWithin, CommentFrom, EmptyComment, CommentStands}
-use Rattle.cell_permit.specs.declared.Shape.TheVariants as shape
-use Rattle.cell_permit.specs.declared.CommentPlace.TheVariants.{At, None}
 use Rattle.cell_permit.proofs.GoodLine.{good_line}
-use Rattle.cell_permit.proofs.ReadLines.{shape_wrong}
-
-at-made : (t : Bool) (n m : ℕ) → cond t (At n) None ≡ At m → (t ≡ true) × (m ≡ n)
-at-made true n m made = (refl, cc)
-at-made false n m made = (cc, cc)
-
-none_made : (t : Bool) (n : ℕ) → cond t (At n) None ≡ None → t ≡ false
-none_made true n made = cc
-none_made false n made = refl
 
 module _ (line : List ℕ) where
-  pub no_comment : shape_of line ≡ shape.Wrong → None ≡ comment_at line
-  unfolding comment_at shape_of
-  no_comment wrong = rw (shape_wrong (is_line line) (parts_of line) wrong)
-
-  pub comment_after : is_line line ≡ true → (n : ℕ) → n ≡ edition_length line → At (71 + n) ≡ comment_at line
-  unfolding comment_at
-  comment_after good n counted = rw (good, counted)
-
   none_there : comment_at line ≡ None → is_line line ≡ false
   unfolding comment_at
-  none_there made = none_made (is_line line) (comment_place line) made
+  none_there made = either (is_line line) (λ good. cc (rw good at made)) (λ bad. bad)
 
   empty_start : comment_at line ≡ None → 0 ≡ comment_start line
   unfolding comment_start
   empty_start made = rw (none_there made)
 
-  module _ (at : ℕ) (made : comment_at line ≡ At at) where
-    there : (is_line line ≡ true) × (at ≡ comment_place line)
+  module _ (at : ℕ) (made : comment_at line ≡ Some at) where
+    there : (is_line line ≡ true) × (comment_place line ≡ at)
     unfolding comment_at
-    there = at-made (is_line line) (comment_place line) at made
+    there = cond_some (is_line line) (comment_place line) at made
 
     part-start : at ≡ comment_start line
     unfolding comment_start
-    part-start = there.1 ∙ (rw there.0)
+    part-start = sym there.1 ∙ (rw there.0)
 
 pub place_within : CommentWithin
 place_within line at made =
@@ -70,7 +53,7 @@ pub empty_comment : EmptyComment
 unfolding comment_of
 empty_comment line made = rw (none_there line made)
 
-pub part-after : (line : List ℕ) (at : ℕ) → comment_at line ≡ At at → take (length line - at) (drop at line) ≡ comment_of line
+pub part-after : (line : List ℕ) (at : ℕ) → comment_at line ≡ Some at → take (length line - at) (drop at line) ≡ comment_of line
 part-after line at made =
     take_all (length line - at) (drop at line) (simp length-drop (omega arith)) ∙ comment_from line at made
 
@@ -89,5 +72,5 @@ module _ (line : Bor (List ℕ)) where
   pub empty_point : comment_at line.now ≡ None → (line.ref_ptr.0, 0 + line.ref_ptr.1) ≡ point_at line (comment_start line.now)
   empty_point made = moved 0 (empty_start line.now made)
 
-  pub part_point : (at : ℕ) → comment_at line.now ≡ At at → (line.ref_ptr.0, at + line.ref_ptr.1) ≡ point_at line (comment_start line.now)
+  pub part_point : (at : ℕ) → comment_at line.now ≡ Some at → (line.ref_ptr.0, at + line.ref_ptr.1) ≡ point_at line (comment_start line.now)
   part_point at made = moved at (part-start line.now at made)

@@ -1,9 +1,10 @@
 -- How many digits the edition has, from the three bytes where it may stand.
 -- Assumes nothing.
-use mathlib.Core.Path.{◌≡◌, refl, ◌∙◌}
+use mathlib.Core.Path.{◌≡◌, refl, ap, ◌∙◌}
 use mathlib.Core.Bool.{true, false, cond}
 use mathlib.Core.List.{List, [], ◌∷◌}
-use Prim.Native.Nat.{ℕ, suc, ◌+◌}
+use Prim.Native.Nat.{ℕ, suc, ◌+◌, ◌-◌, ◌≤◌, ◌<◌}
+use native.Mathlib.Omega.{arith}
 use native.Mathlib.Nat.{add-zero}
 use lib.ListN.{get_or, drop}
 use lib.Seq.{drop-drop, get_or-drop}
@@ -22,6 +23,20 @@ digit_at : (n at : ℕ) (line : List ℕ)
 digit_at n at line = one_digit n (drop at line) ∙ rw (get_or-drop, drop-drop, add-zero)
 
 module _ (line : List ℕ) where
+  -- after n digits, of the three at most that are counted
+  pub one_more : (n : ℕ) → n < 3
+      → leading_digits (3 - n) (drop (67 + n) line) ≡ cond (is_digit (get_or line (67 + n) 0)) (suc (leading_digits (3 - (n + 1)) (drop (67 + (n + 1)) line))) 0
+  one_more n more =
+      let left : 3 - n ≡ suc (3 - (n + 1)) = omega arith in
+      let next : 67 + n + 1 ≡ 67 + (n + 1) = omega arith in
+      ap (λ (k : ℕ). leading_digits k (drop (67 + n) line)) left
+      ∙ digit_at (3 - (n + 1)) (67 + n) line
+      ∙ ap (λ (k : ℕ). cond (is_digit (get_or line (67 + n) 0)) (suc (leading_digits (3 - (n + 1)) (drop k line))) 0) next
+
+  pub no_more : (n : ℕ) → 3 ≤ n → leading_digits (3 - n) (drop (67 + n) line) ≡ 0
+  unfolding leading_digits
+  no_more n done = let none : 3 - n ≡ 0 = omega arith in rw none
+
   by_digits : edition_length line
       ≡ cond (is_digit (get_or line 67 0)) (suc (cond (is_digit (get_or line 68 0)) (suc (cond (is_digit (get_or line 69 0)) 1 0)) 0)) 0
   unfolding leading_digits

@@ -16,7 +16,7 @@ use Rattle.text.proofs.TextsAt.{part_join, part_of_part, same_within}
 use Rattle.forms.specs.DateText.{is_date_at}
 use Rattle.forms.proofs.HwIds.{same_form}
 use Rattle.cell_permit.specs.CellPermit.{ship_words, written_line}
-use Rattle.cell_permit.specs.Line.{is_permit, edition_length, is_tail, is_line, parts_of, comment_of, comment_at, comment_start, checked, read_with, given_number, read_line}
+use Rattle.cell_permit.specs.Line.{is_permit, edition_length, is_tail, is_line, permit_parts, field_parts, parts_of, comment_of, comment_at, comment_start, checked, read_with, given_number, read_line}
 use Rattle.cell_permit.specs.EitherCase.{CaseAlone, ShipEitherCase, ReadEitherCase, LineEitherCase, CommentEitherCase, WrittenEitherCase}
 
 -- a line is its first 16 bytes, the next 48 and the rest
@@ -105,7 +105,7 @@ module _ (s t : List ℕ) (alone : CaseAlone s t) where
   line_same = rw (one_size, permit_same, tail_same)
 
   parts_same : parts_of s ≡ parts_of t
-  unfolding parts_of number_at
+  unfolding parts_of permit_parts field_parts number_at
   parts_same =
       let n = edition_length t in
       rw (

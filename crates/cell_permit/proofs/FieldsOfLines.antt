@@ -17,7 +17,7 @@ use Rattle.text.proofs.Notations.{decimal}
 use Rattle.dates.proofs.Parts.{date_fits}
 use Rattle.forms.proofs.Fits.{text_fits, text_all}
 use Rattle.cell_permit.specs.CellPermit.{comma}
-use Rattle.cell_permit.specs.Line.{expiry_of, edition_length, is_permit, is_tail, is_line, parts_of, shape_of, comment_of}
+use Rattle.cell_permit.specs.Line.{expiry_of, edition_length, is_permit, is_tail, is_line, permit_parts, field_parts, parts_of, shape_of, comment_of}
 use Rattle.cell_permit.specs.LineFields.{LineFields, edition_text, permit_text, line_text, AreFields, parts_for, FieldsRead}
 use Rattle.cell_permit.proofs.LineSizes.{Sizes}
 use Rattle.cell_permit.proofs.Along.{From, part_there, rest_there, head_there, number_there}
@@ -133,7 +133,7 @@ module _ (f : LineFields) (are : AreFields f) where
       (text_fits is_name_character 2 f.server are.server))
 
   pub parts_back : parts_of (line_text f) ≡ parts_for f
-  unfolding parts_of
+  unfolding parts_of permit_parts field_parts
   parts_back =
       rw (name_back, one_read _ _ _ _ _ _ along sizes, two_read _ _ _ _ _ _ along sizes, check_read _ _ _ _ _ _ along sizes, expiry_back, level_back, edition_back, server_back)
 

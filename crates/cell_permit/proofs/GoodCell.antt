@@ -1,12 +1,10 @@
 -- What the test of a cell says of each of its values.
 -- Assumes nothing.
-use mathlib.Core.Path.{◌≡◌, sym}
-use mathlib.Core.Bool.{Bool, true, false, ◌&&◌}
+use mathlib.Core.Path.{◌≡◌}
+use mathlib.Core.Bool.{Bool, true, ◌&&◌}
 use Prim.Native.Nat.{◌^◌, ◌≤◌, ◌<◌}
-use native.Mathlib.Omega.{arith}
-use borrow.Author.Tests.{ltb-true, lt-ltb, leb-true, le-leb}
+use borrow.Author.Tests.{ltb-true, leb-true}
 use lib.Dec.{leb}
-use Rattle.octets.proofs.Every.{either}
 use Rattle.dates.specs.Calendar.{is_date}
 use Rattle.dates.proofs.Bounds.{both}
 use Rattle.forms.specs.Identifiers.{is_cell_name, is_cell_key, is_server_id}
@@ -69,14 +67,3 @@ good_cell cell good =
       high = leb-true cell.edition 999 tests.high;
       server = tests.last;
     }
-
--- a cell with a value that is not good
-pub not_cell : (cell : Cell) → (Good cell → ⊥) → false ≡ is_cell cell
-not_cell cell wrong = either (is_cell cell) (λ good. absurd (wrong (good_cell cell good))) (λ bad. sym bad)
-
--- the Data Server ID decides where all else is good
-pub by_server : (cell : Cell) → is_cell_name cell.name ≡ true → is_date cell.expiry ≡ true → cell.key1 ≤ 0xFF_FFFF_FFFF → cell.key2 ≤ 0xFF_FFFF_FFFF
-    → cell.level ≤ 1 → 1 ≤ cell.edition → cell.edition ≤ 999 → is_server_id cell.server ≡ is_cell cell
-unfolding is_cell
-by_server cell name date one two level low high =
-    rw (name, date, lt-ltb cell.key1 (256 ^ 5) (omega arith), lt-ltb cell.key2 (256 ^ 5) (omega arith), le-leb cell.level 1 level, le-leb 1 cell.edition low, le-leb cell.edition 999 high)

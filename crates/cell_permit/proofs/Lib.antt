@@ -1,6 +1,5 @@
 pub mod ShipKeys
 pub mod Editions
-pub mod ReadPermits
 pub mod ReadFields
 pub mod ReadLines
 pub mod Comments

@@ -1,26 +1,23 @@
 -- The fields after a permit are wrong where a test fails, and otherwise have the parts that were read.
 -- Assumes nothing.
 use mathlib.Core.Path.{◌≡◌, refl}
-use mathlib.Core.Bool.{Bool, true, false, ◌&&◌, and_assoc}
+use mathlib.Core.Bool.{Bool, true, ◌&&◌, and_assoc}
 use mathlib.Core.List.{List, [], ◌∷◌}
-use Prim.Native.Nat.{ℕ, zero, suc, ◌+◌, ◌-◌, ◌≤◌, ◌<◌}
+use Prim.Native.Nat.{ℕ, zero, suc, ◌+◌, ◌-◌, ◌^◌, ◌≤◌, ◌<◌}
 use native.Mathlib.Nat.{pow-le-pow_right}
 use native.Mathlib.Omega.{arith}
 use borrow.Author.Tests.{eqb-true, leb-true, leb-false}
 use lib.Dec.{leb}
 use lib.ListN.{length, get_or, take, drop, get_or-eq_default}
 use Rattle.octets.specs.Every.{all_of}
-use Rattle.octets.specs.Places.{number_at}
-use Rattle.octets.specs.declared.numbers.Reading.TheVariants.{Number, Wrong}
 use Rattle.octets.proofs.Every.{and_first, and_second, either, all_more}
-use Rattle.text.specs.Characters.{is_digit, is_name_character, is_printable}
-use Rattle.text.specs.Texts.{all_at, decimal_at}
+use Rattle.text.specs.Characters.{decimal_number, is_digit, is_name_character, is_printable}
+use Rattle.text.specs.Texts.{part, all_at}
 use Rattle.text.proofs.TextsAt.{all_at_place}
-use Rattle.text.proofs.NumbersAt.{decimal_number_lem, decimal_wrong, decimal_bound}
+use Rattle.text.proofs.NumbersAt.{decimal_bound}
 use Rattle.cell_permit.specs.CellPermit.{comma}
 use Rattle.cell_permit.specs.Line.{comma_at, leading_digits, edition_length, is_tail}
-use Rattle.cell_permit.specs.LineParts.{is_level_part, is_server_part, field_parts, fields_of}
-use Rattle.cell_permit.specs.declared.Fields.TheVariants as fields
+use Rattle.cell_permit.specs.LineParts.{is_level_part, is_server_part}
 
 -- a comma stands within the line
 pub comma-within : (line : List ℕ) (at : ℕ) → comma_at line at ≡ true → at < length line
@@ -48,8 +45,11 @@ leading_few (suc n) (c ∷ s) =
     (λ good. rw good (omega (arith, leading_few n s)))
     (λ bad. rw bad (omega arith))
 
+pub edition_at_most : (line : List ℕ) → edition_length line ≤ 3
+edition_at_most line = leading_few 3 (drop 67 line)
+
 pub edition_few : (line : List ℕ) (n : ℕ) → n ≡ edition_length line → n ≤ 3
-edition_few line n counted = omega (arith, leading_few 3 (drop 67 line))
+edition_few line n counted = omega (arith, edition_at_most line)
 
 first_of : (a b c d : Bool) → (a && b && c && d) ≡ true → a ≡ true
 first_of a b c d all = and_first a b (and_first (a && b) c (and_first (a && b && c) d all))
@@ -58,59 +58,33 @@ second_of : (a b c d : Bool) → (a && b && c && d) ≡ true → b ≡ true
 second_of a b c d all = and_second a b (and_first (a && b) c (and_first (a && b && c) d all))
 
 module _ (line : List ℕ) where
-  tail_parts : is_tail line ≡ (is_level_part line && is_server_part line (edition_length line))
+  pub tail_parts : is_tail line ≡ (is_level_part line && is_server_part line (edition_length line))
   unfolding is_tail is_level_part is_server_part
   tail_parts = simp and_assoc
 
-  pub no_level : is_level_part line ≡ false → fields.Wrong ≡ fields_of line
-  unfolding fields_of
-  no_level bad = rw (tail_parts, bad)
-
   module _ (level : is_level_part line ≡ true) where
-    pub level-least : 48 ≤ get_or line 65 0
+    pub level_least : 48 ≤ get_or line 65 0
     unfolding is_level_part
-    level-least =
+    level_least =
         let at_least_lem = leb 48 (get_or line 65 0) in
         let at_most = leb (get_or line 65 0) 49 in
         leb-true 48 (get_or line 65 0)
         (and_first at_least_lem at_most
         (second_of (comma_at line 64) (at_least_lem && at_most) (comma_at line 66) _ level))
 
-    module _ (n : ℕ) (counted : n ≡ edition_length line) where
-      pub no-server : is_server_part line n ≡ false → fields.Wrong ≡ fields_of line
-      unfolding fields_of
-      no-server bad = rw (tail_parts, level, ← counted, bad)
+  module _ (n : ℕ) (counted : n ≡ edition_length line) (server : is_server_part line n ≡ true) where
+    comma-after : comma_at line (67 + n) ≡ true
+    unfolding is_server_part
+    comma-after =
+        first_of (comma_at line (67 + n)) (all_at is_name_character 2 line (68 + n)) (comma_at line (70 + n))
+        (all_at is_printable (length line - (71 + n)) line (71 + n)) server
 
-      module _ (server : is_server_part line n ≡ true) where
-        comma-after : comma_at line (67 + n) ≡ true
-        unfolding is_server_part
-        comma-after =
-            first_of (comma_at line (67 + n)) (all_at is_name_character 2 line (68 + n)) (comma_at line (70 + n))
-            (all_at is_printable (length line - (71 + n)) line (71 + n)) server
+    -- the edition's bytes are digits
+    pub digits_there : all_at is_digit n line 67 ≡ true
+    digits_there =
+        all_at_place is_digit n line 67 (omega (arith, comma-within line (67 + n) comma-after))
+        (rw counted (leading_all 3 (drop 67 line)))
 
-        -- the edition's bytes are digits
-        digits-there : all_at is_digit n line 67 ≡ true
-        digits-there =
-            all_at_place is_digit n line 67 (omega (arith, comma-within line (67 + n) comma-after))
-            (rw counted (leading_all 3 (drop 67 line)))
-
-        pub no-edition : decimal_at n line 67 ≡ Wrong → fields.Wrong ≡ fields_of line
-        no-edition wrong =
-            let few : n ≤ 19 = omega (arith, edition_few line n counted) in
-            cc (digits-there, decimal_wrong n line 67 few wrong)
-
-        module _ (e : ℕ) (made : decimal_at n line 67 ≡ Number e) where
-          pub edition_small : e < 1000
-          edition_small =
-              omega (
-                arith,
-                (decimal_number_lem n line 67 e made).1,
-                decimal_bound n line 67 digits-there,
-                pow-le-pow_right {n = 10} (omega arith) (edition_few line n counted),
-              )
-
-          pub is-fields : (b s : ℕ) → b ≡ get_or line 65 0 → s ≡ number_at 2 line (68 + n)
-              → fields.Parts (record { level = b - 48; edition = e; server = s }) ≡ fields_of line
-          unfolding fields_of field_parts
-          is-fields b s byte-there server-there =
-              rw (tail_parts, level, ← counted, server, byte-there, server-there, (decimal_number_lem n line 67 e made).1)
+    pub edition_small : decimal_number (part n line 67) < 2 ^ 32
+    edition_small =
+        omega (arith, decimal_bound n line 67 digits_there, pow-le-pow_right {n = 10} (omega arith) (edition_few line n counted))

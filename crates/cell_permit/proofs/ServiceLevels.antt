@@ -1,13 +1,12 @@
 -- A record's notice is that of its own level and expiry, so only level 0 is warned; and what refuses a line of good shape stands in its permit.
 -- Assumes nothing.
+use Rattle.std.specs.Prelude.{Option, Some, None, Result, Ok, Err}
 use mathlib.Core.Path.{◌≡◌, refl, sym, ap, ◌∙◌}
 use mathlib.Core.Bool.{Bool, true, false, false≢true}
 use mathlib.Core.List.{List}
 use Prim.Native.Nat.{ℕ}
 use native.Mathlib.Omega.{arith}
 use lib.Dec.{eqb}
-use Rattle.octets.specs.declared.numbers.Reading.{Reading}
-use Rattle.octets.specs.declared.numbers.Reading.TheVariants.{Number, Wrong}
 use Rattle.text.specs.Characters.{raised_text}
 use Rattle.text.specs.Texts.{part}
 use Rattle.text.proofs.TextsAt.{same_within}
@@ -16,82 +15,82 @@ use Rattle.dates.specs.Notice.{days_left, is_days, notice_of, notice_number}
 use Rattle.dates.proofs.Levels.{subscription, no_subscription, not_current}
 use Rattle.forms.specs.Identifiers.{is_hw_id}
 use Rattle.forms.specs.Order.{demand}
+use Rattle.forms.specs.Refusals.{number_of, refusal_of, refused, refusal_number}
+use Rattle.forms.specs.declared.refusals.Refusal.{Refusal}
 use Rattle.forms.proofs.Demands.{demanded}
 use Rattle.cell_permit.specs.CellPermit.{ship_words, check_of}
-use Rattle.cell_permit.specs.Line.{is_line, parts_of, record_of, key_under, checked, read_with, given_number, read_line, line_number}
-use Rattle.cell_permit.specs.ServiceLevel.{OwnNotice, is_warning, WarnsLevel0Alone, SinglesAreCurrent, SubscriptionsAsBefore, refusal_of, LevelsRefusedAlike}
-use Rattle.cell_permit.specs.declared.Line.{Line}
-use Rattle.cell_permit.specs.declared.Line.TheVariants as line
+use Rattle.cell_permit.specs.Line.{is_line, permit_parts, parts_of, record_of, key_under, checked, read_with, given_number, read_line, line_number}
+use Rattle.cell_permit.specs.ServiceLevel.{OwnNotice, is_warning, WarnsLevel0Alone, SinglesAreCurrent, SubscriptionsAsBefore, LevelsRefusedAlike}
 use Rattle.cell_permit.specs.declared.Parts.{Parts}
 use Rattle.cell_permit.specs.declared.Record.{Record}
 
 -- what is known of a record that was read from a line
 record ReadFrom (today days : ℕ) (s : List ℕ) (r : Record) : Type 0 where
   shape : is_line s ≡ true
-  level : r.level ≡ (parts_of s).level
+  level : r.level ≡ (parts_of s).fields.level
   notice : r.notice ≡ notice_of r.level (days_left today r.expiry) days
 
 -- what is known of any answer: no refusal is a warning
-abbrev Answered : ℕ → ℕ → List ℕ → Line → Type 0
-Answered today days s (line.Record r) = ReadFrom today days s r
-Answered today days s (line.Refused n) = is_warning n ≡ false
+abbrev Answered : ℕ → ℕ → List ℕ → Result Record Refusal → Type 0
+Answered today days s (Ok r) = ReadFrom today days s r
+Answered today days s (Err r) = is_warning (number_of r) ≡ false
 
 module _ (today days : ℕ) (s : List ℕ) where
-  record_answered : is_line s ≡ true → (one two : Reading) → Answered today days s (record_of today days (parts_of s) one two)
-  record_answered shaped (Number one) (Number two) = record { shape = shaped; level = refl; notice = refl }
-  record_answered shaped (Number one) Wrong = refl
-  record_answered shaped Wrong two = refl
+  record_answered : is_line s ≡ true → (one two : Option ℕ) → Answered today days s (record_of today days (parts_of s) one two)
+  record_answered shaped (Some one) (Some two) = record { shape = shaped; level = refl; notice = refl }
+  record_answered shaped (Some one) None = refl
+  record_answered shaped None two = refl
 
   answered_with : (words : List ℕ) → Answered today days s (read_with words today days s)
   unfolding read_with checked
   answered_with words =
-      demanded (Answered today days s) (is_line s) (line.Refused 12) (checked words today days s p) refl
-      (λ shaped. demanded (Answered today days s) (eqb p.check (check_of words (raised_text (part 48 s 0)))) (line.Refused 13) (record_of today days p one two) refl
+      demanded (Answered today days s) (is_line s) (refused 12) (checked words today days s p) refl
+      (λ shaped. demanded (Answered today days s) (eqb p.permit.check (check_of words (raised_text (part 48 s 0)))) (refused 13) (record_of today days p one two) refl
       (λ right. record_answered shaped one two))
     where
       p : Parts
       p = parts_of s
 
-      one : Reading
-      one = key_under words p.block1
+      one : Option ℕ
+      one = key_under words p.permit.block1
 
-      two : Reading
-      two = key_under words p.block2
+      two : Option ℕ
+      two = key_under words p.permit.block2
 
 pub own_notice : OwnNotice
 own_notice words today days s r here =
     let read : ReadFrom today days s r = rw here at (answered_with today days s words) in
     read.notice
 
-given_no_warning : (hw today days : ℕ) → is_warning (given_number hw today days) ≡ false
+given_no_warning : (hw today days : ℕ) → is_warning (number_of (refusal_of (given_number hw today days))) ≡ false
 unfolding given_number
 given_no_warning hw today days =
     demanded P (is_hw_id hw) 18 _ refl (λ ship. demanded P (is_date today) 14 _ refl (λ date. demanded P (is_days days) 103 0 refl (λ good. refl)))
   where
     P : ℕ → Type 0
-    P n = is_warning n ≡ false
+    P n = is_warning (number_of (refusal_of n)) ≡ false
 
 answered : (hw today days : ℕ) (s : List ℕ) → Answered today days s (read_line hw today days s)
 unfolding read_line
 answered hw today days s =
     let g = given_number hw today days in
-    demanded (Answered today days s) (eqb g 0) (line.Refused g) (read_with (ship_words hw) today days s) (given_no_warning hw today days)
+    demanded (Answered today days s) (eqb g 0) (refused g) (read_with (ship_words hw) today days s) (given_no_warning hw today days)
     (λ good. answered_with today days s (ship_words hw))
 
-level_0_alone : (today days : ℕ) (s : List ℕ) (a : Line) → Answered today days s a → is_warning (line_number a) ≡ true
-    → (is_line s ≡ true) × ((parts_of s).level ≡ 0)
-level_0_alone today days s (line.Record r) read warned = (
+level_0_alone : (today days : ℕ) (s : List ℕ) (a : Result Record Refusal) → Answered today days s a → is_warning (line_number a) ≡ true
+    → (is_line s ≡ true) × ((parts_of s).fields.level ≡ 0)
+level_0_alone today days s (Ok r) read warned = (
   read.shape,
   sym read.level
       ∙ not_current r.level (days_left today r.expiry) days
       (λ none. false≢true (sym (ap is_warning (ap notice_number read.notice ∙ none)) ∙ warned)),
 )
-level_0_alone today days s (line.Refused n) none warned = absurd (false≢true (sym none ∙ warned))
+level_0_alone today days s (Err r) none warned = absurd (false≢true (sym none ∙ warned))
 
 pub warns_level_0_alone : WarnsLevel0Alone
 warns_level_0_alone hw today days s = level_0_alone today days s (read_line hw today days s) (answered hw today days s)
 
-module _ (hw today days : ℕ) (s : List ℕ) (r : Record) (here : read_line hw today days s ≡ line.Record r) where
+module _ (hw today days : ℕ) (s : List ℕ) (r : Record) (here : read_line hw today days s ≡ Ok r) where
   read_from : ReadFrom today days s r
   read_from = rw here at (answered hw today days s)
 
@@ -103,37 +102,37 @@ pub subscriptions_as_before : SubscriptionsAsBefore
 subscriptions_as_before hw today days s r here level = (read_from hw today days s r here).notice ∙ subscription _ _ _ level
 
 -- what follows a test is refused alike where it is refused alike by itself
-alike_after : (test : Bool) (refused a b : Line) → refusal_of a ≡ refusal_of b → refusal_of (demand test refused a) ≡ refusal_of (demand test refused b)
-alike_after true refused a b same = same
-alike_after false refused a b same = refl
+alike_after : (test : Bool) (r a b : Result Record Refusal) → refusal_number a ≡ refusal_number b → refusal_number (demand test r a) ≡ refusal_number (demand test r b)
+alike_after true r a b same = same
+alike_after false r a b same = refl
 
 -- a check and two keys are refused alike, whatever the other parts are
 module _ (today days : ℕ) (p q : Parts) where
-  keys_alike : (one two : Reading) → refusal_of (record_of today days p one two) ≡ refusal_of (record_of today days q one two)
-  keys_alike (Number one) (Number two) = refl
-  keys_alike (Number one) Wrong = refl
-  keys_alike Wrong two = refl
+  keys_alike : (one two : Option ℕ) → refusal_number (record_of today days p one two) ≡ refusal_number (record_of today days q one two)
+  keys_alike (Some one) (Some two) = refl
+  keys_alike (Some one) None = refl
+  keys_alike None two = refl
 
-  permit_alike : (test other : Bool) (one two k1 k2 : Reading) → test ≡ other → one ≡ k1 → two ≡ k2
-      → refusal_of (demand test (line.Refused 13) (record_of today days p one two)) ≡ refusal_of (demand other (line.Refused 13) (record_of today days q k1 k2))
+  permit_alike : (test other : Bool) (one two k1 k2 : Option ℕ) → test ≡ other → one ≡ k1 → two ≡ k2
+      → refusal_number (demand test (refused 13) (record_of today days p one two)) ≡ refusal_number (demand other (refused 13) (record_of today days q k1 k2))
   permit_alike test other one two k1 k2 same first second =
       rw (same, first, second)
-      (alike_after other (line.Refused 13) (record_of today days p k1 k2) (record_of today days q k1 k2) (keys_alike k1 k2))
+      (alike_after other (refused 13) (record_of today days p k1 k2) (record_of today days q k1 k2) (keys_alike k1 k2))
 
 module _ (words : List ℕ) (today days : ℕ) (s t : List ℕ) (same : part 64 s 0 ≡ part 64 t 0) where
-  check_same : eqb (parts_of s).check (check_of words (raised_text (part 48 s 0))) ≡ eqb (parts_of t).check (check_of words (raised_text (part 48 t 0)))
-  unfolding parts_of
+  check_same : eqb (parts_of s).permit.check (check_of words (raised_text (part 48 s 0))) ≡ eqb (parts_of t).permit.check (check_of words (raised_text (part 48 t 0)))
+  unfolding parts_of permit_parts
   check_same = rw (same_within 64 s t same 16 48 (omega arith), same_within 64 s t same 48 0 (omega arith))
 
-  first_same : key_under words (parts_of s).block1 ≡ key_under words (parts_of t).block1
-  unfolding parts_of
+  first_same : key_under words (parts_of s).permit.block1 ≡ key_under words (parts_of t).permit.block1
+  unfolding parts_of permit_parts
   first_same = rw (same_within 64 s t same 16 16 (omega arith))
 
-  second_same : key_under words (parts_of s).block2 ≡ key_under words (parts_of t).block2
-  unfolding parts_of
+  second_same : key_under words (parts_of s).permit.block2 ≡ key_under words (parts_of t).permit.block2
+  unfolding parts_of permit_parts
   second_same = rw (same_within 64 s t same 16 32 (omega arith))
 
-  checked_alike : refusal_of (checked words today days s (parts_of s)) ≡ refusal_of (checked words today days t (parts_of t))
+  checked_alike : refusal_number (checked words today days s (parts_of s)) ≡ refusal_number (checked words today days t (parts_of t))
   unfolding checked
   checked_alike = permit_alike today days (parts_of s) (parts_of t) _ _ _ _ _ _ check_same first_same second_same
 
@@ -142,6 +141,6 @@ unfolding read_line read_with
 levels_refused_alike hw today days s t s-line t-line same =
     let words = ship_words hw in
     rw (s-line, t-line)
-    (alike_after (eqb (given_number hw today days) 0) (line.Refused (given_number hw today days))
+    (alike_after (eqb (given_number hw today days) 0) (refused (given_number hw today days))
     (checked words today days s (parts_of s)) (checked words today days t (parts_of t))
     (checked_alike words today days s t same))

@@ -1,5 +1,6 @@
 -- Under the words of a ship a cell key is found again, and the check tells apart the CRC-32s that it was made of.
 -- Assumes nothing.
+use Rattle.std.specs.Prelude.{Some}
 use mathlib.Core.Path.{◌≡◌, sym, ap, ◌∙◌}
 use mathlib.Core.List.{List}
 use Prim.Native.Nat.{ℕ, ◌^◌, ◌≤◌, ◌<◌}
@@ -8,7 +9,6 @@ use lib.Dec.{lit<}
 use lib.ListN.{take}
 use Rattle.octets.specs.Numbers.{Below, bytes_of}
 use Rattle.octets.specs.Padding.{pad_of}
-use Rattle.octets.specs.declared.numbers.Reading.TheVariants.{Number}
 use Rattle.octets.proofs.Digits.{take_below, append_below, digits_below}
 use Rattle.octets.proofs.Pads.{pad-below, pad-injective, unpad-pad-fit}
 use Rattle.crc32.specs.Crc32.{crc32_of}
@@ -34,7 +34,7 @@ module _ (words : List ℕ) (good : Below (2 ^ 32) words) where
   padded_back n x h = number_back words good (pad_of n x) (pad-below n h x)
 
   -- the cell key under its padding and the cipher
-  pub key_back : (key : ℕ) → key < 256 ^ 5 → key_under words (encipher_of words (pad_of 5 key)) ≡ Number key
+  pub key_back : (key : ℕ) → key < 256 ^ 5 → key_under words (encipher_of words (pad_of 5 key)) ≡ Some key
   key_back key fits =
       let small : 5 ≤ 8 = omega arith in
       rw (padded_back 5 key small) (unpad-pad-fit 5 small key fits)

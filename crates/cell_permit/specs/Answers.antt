@@ -1,7 +1,6 @@
 -- What the answers hand out, case by case; their numbers stand beside their calls. A refusal hands out nothing: every value is 0.
-use Rattle.std.specs.Prelude.{ℕ}
-use Rattle.cell_permit.specs.declared.Line.{Line}
-use Rattle.cell_permit.specs.declared.Line.TheVariants as line
+use Rattle.std.specs.Prelude.{ℕ, Result, Ok, Err}
+use Rattle.forms.specs.declared.refusals.Refusal.{Refusal}
 use Rattle.cell_permit.specs.declared.Record.{Record}
 
 -- what a line hands out beside its notice
@@ -39,6 +38,6 @@ no_values = record {
 }
 
 -- what a line's answer hands out
-abbrev pub line_values : Line → LineValues
-line_values (line.Record r) = record_values r
-line_values (line.Refused n) = no_values
+abbrev pub line_values : Result Record Refusal → LineValues
+line_values (Ok r) = record_values r
+line_values (Err r) = no_values

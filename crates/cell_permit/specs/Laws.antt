@@ -1,20 +1,19 @@
 -- What the crates above rest on: laws of a line's comment and of its numbers.
-use Rattle.std.specs.Prelude.{◌≡◌, List, [], ℕ, ◌≤◌, ◌<◌, length, drop}
+use Rattle.std.specs.Prelude.{◌≡◌, List, [], ℕ, ◌≤◌, ◌<◌, length, drop, Some, None}
 use Rattle.text.specs.Texts.{part}
 use Rattle.cell_permit.specs.Line.{comment_of, comment_at, comment_start, read_with, line_number}
-use Rattle.cell_permit.specs.declared.CommentPlace.TheVariants as comment-place
 
 -- a comment begins within its line, or at its end
 abbrev pub CommentWithin : Type 0
-CommentWithin = (line : List ℕ) (at : ℕ) → comment_at line ≡ comment-place.At at → at ≤ length line
+CommentWithin = (line : List ℕ) (at : ℕ) → comment_at line ≡ Some at → at ≤ length line
 
 -- and from there on the line is the comment
 abbrev pub CommentFrom : Type 0
-CommentFrom = (line : List ℕ) (at : ℕ) → comment_at line ≡ comment-place.At at → drop at line ≡ comment_of line
+CommentFrom = (line : List ℕ) (at : ℕ) → comment_at line ≡ Some at → drop at line ≡ comment_of line
 
 -- where none begins, the comment is empty
 abbrev pub EmptyComment : Type 0
-EmptyComment = (line : List ℕ) → comment_at line ≡ comment-place.None → comment_of line ≡ []
+EmptyComment = (line : List ℕ) → comment_at line ≡ None → comment_of line ≡ []
 
 -- the part that is handed back is the comment: so many bytes of the line, from its start on
 abbrev pub CommentStands : Type 0

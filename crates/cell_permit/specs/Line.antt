@@ -1,9 +1,7 @@
 -- Reading a line of PERMIT.TXT, given without its CR LF.
-use Rattle.std.specs.Prelude.{Bool, cond, not, ◌&&◌, List, [], ◌∷◌, ℕ, zero, suc, ◌+◌, ◌-◌, leb, eqb, length, get_or, drop}
+use Rattle.std.specs.Prelude.{Bool, cond, not, ◌&&◌, List, [], ◌∷◌, ℕ, zero, suc, ◌+◌, ◌-◌, leb, eqb, length, get_or, drop, Option, Some, None, Result, Ok, Err}
 use Rattle.octets.specs.Places.{number_at}
 use Rattle.octets.specs.Padding.{unpad_of}
-use Rattle.octets.specs.declared.numbers.Reading.{Reading}
-use Rattle.octets.specs.declared.numbers.Reading.TheVariants.{Number, Wrong}
 use Rattle.text.specs.Ascii.{byte}
 use Rattle.text.specs.Characters.{between, raised_text, is_digit, is_hex, is_name_character, is_printable, hex_number, decimal_number}
 use Rattle.text.specs.Texts.{part, all_at}
@@ -15,14 +13,13 @@ use Rattle.blowfish.specs.Cipher.{decipher_of}
 use Rattle.forms.specs.Order.{demand}
 use Rattle.forms.specs.Identifiers.{is_hw_id}
 use Rattle.forms.specs.DateText.{is_date_at}
+use Rattle.forms.specs.Refusals.{number_of, refused}
+use Rattle.forms.specs.declared.refusals.Refusal.{Refusal}
 use Rattle.cell_permit.specs.CellPermit.{ship_words, check_of, comma}
-use Rattle.cell_permit.specs.declared.Line.{Line}
-use Rattle.cell_permit.specs.declared.Line.TheVariants.{Record, Refused}
-use Rattle.cell_permit.specs.declared.CommentPlace.{CommentPlace}
-use Rattle.cell_permit.specs.declared.CommentPlace.TheVariants as comment-place
+use Rattle.cell_permit.specs.declared.FieldParts.{FieldParts}
 use Rattle.cell_permit.specs.declared.Parts.{Parts}
-use Rattle.cell_permit.specs.declared.Shape.{Shape}
-use Rattle.cell_permit.specs.declared.Shape.TheVariants as shape
+use Rattle.cell_permit.specs.declared.PermitParts.{PermitParts}
+use Rattle.cell_permit.specs.declared.Record.{Record}
 
 -- the expiry's date as a number
 abbrev pub expiry_of : List ℕ → ℕ
@@ -65,22 +62,31 @@ is_tail line =
 unfoldable pub is_line : List ℕ → Bool
 is_line line = leb (length line) 160 && is_permit line && is_tail line
 
--- its parts; a blank edition reads as 0
-unfoldable pub parts_of : List ℕ → Parts
-parts_of line = record {
+-- the permit's parts
+unfoldable pub permit_parts : List ℕ → PermitParts
+permit_parts line = record {
   name = number_at 8 line 0;
   block1 = hex_number (part 16 line 16);
   block2 = hex_number (part 16 line 32);
   check = hex_number (part 16 line 48);
   expiry = expiry_of line;
+}
+
+-- the parts of the fields after it; a blank edition reads as 0
+unfoldable pub field_parts : List ℕ → FieldParts
+field_parts line = record {
   level = get_or line 65 0 - byte "0";
   edition = decimal_number (part (edition_length line) line 67);
   server = number_at 2 line (68 + edition_length line);
 }
 
+-- the line's parts
+unfoldable pub parts_of : List ℕ → Parts
+parts_of line = record { permit = permit_parts line; fields = field_parts line }
+
 -- a line taken apart
-unfoldable pub shape_of : List ℕ → Shape
-shape_of line = cond (is_line line) (shape.Line (parts_of line)) shape.Wrong
+unfoldable pub shape_of : List ℕ → Option Parts
+shape_of line = cond (is_line line) (Some (parts_of line)) None
 
 -- the comment is all that follows the fourth comma; the empty part for a line that gives 12
 unfoldable pub comment_of : List ℕ → List ℕ
@@ -91,53 +97,53 @@ abbrev pub notice_for : ℕ → ℕ → ℕ → ℕ → Notice
 notice_for today days level expiry = notice_of level (days_left today expiry) days
 
 -- both keys with right padding, else 21
-abbrev pub record_of : ℕ → ℕ → Parts → Reading → Reading → Line
-record_of today days p (Number one) (Number two) =
-    Record (record {
-      name = p.name;
+abbrev pub record_of : ℕ → ℕ → Parts → Option ℕ → Option ℕ → Result Record Refusal
+record_of today days p (Some one) (Some two) =
+    Ok (record {
+      name = p.permit.name;
       key1 = one;
       key2 = two;
-      expiry = p.expiry;
-      level = p.level;
-      edition = p.edition;
-      server = p.server;
-      notice = notice_for today days p.level p.expiry;
+      expiry = p.permit.expiry;
+      level = p.fields.level;
+      edition = p.fields.edition;
+      server = p.fields.server;
+      notice = notice_for today days p.fields.level p.permit.expiry;
     })
-record_of today days p (Number one) Wrong = Refused 21
-record_of today days p Wrong two = Refused 21
+record_of today days p (Some one) None = refused 21
+record_of today days p None two = refused 21
 
 -- a cell key as it was before it was padded and enciphered
-abbrev pub key_under : List ℕ → ℕ → Reading
+abbrev pub key_under : List ℕ → ℕ → Option ℕ
 key_under words block = unpad_of 5 (decipher_of words block)
 
 -- the check part is right for this HW_ID, else 13: enciphered values are compared, and that of the 48 characters is made with their letters raised
-unfoldable pub checked : List ℕ → ℕ → ℕ → List ℕ → Parts → Line
+unfoldable pub checked : List ℕ → ℕ → ℕ → List ℕ → Parts → Result Record Refusal
 checked words today days line p =
-    demand (eqb p.check (check_of words (raised_text (part 48 line 0)))) (Refused 13)
-    (record_of today days p (key_under words p.block1) (key_under words p.block2))
+    demand (eqb p.permit.check (check_of words (raised_text (part 48 line 0)))) (refused 13)
+    (record_of today days p (key_under words p.permit.block1) (key_under words p.permit.block2))
 
 -- reading a line under the words of a ship
-unfoldable pub read_with : List ℕ → ℕ → ℕ → List ℕ → Line
-read_with words today days line = demand (is_line line) (Refused 12) (checked words today days line (parts_of line))
+unfoldable pub read_with : List ℕ → ℕ → ℕ → List ℕ → Result Record Refusal
+read_with words today days line = demand (is_line line) (refused 12) (checked words today days line (parts_of line))
 
 -- HW_ID, today and warning days as given: 18, then 14, then 103 for days that are no warning days, else 0
 unfoldable pub given_number : ℕ → ℕ → ℕ → ℕ
 given_number hw today days = demand (is_hw_id hw) 18 (demand (is_date today) 14 (demand (is_days days) 103 0))
 
 -- reading a line
-unfoldable pub read_line : ℕ → ℕ → ℕ → List ℕ → Line
+unfoldable pub read_line : ℕ → ℕ → ℕ → List ℕ → Result Record Refusal
 read_line hw today days line =
-    demand (eqb (given_number hw today days) 0) (Refused (given_number hw today days))
+    demand (eqb (given_number hw today days) 0) (refused (given_number hw today days))
     (read_with (ship_words hw) today days line)
 
 -- the answer's number: a record's is that of its notice
-abbrev pub line_number : Line → ℕ
-line_number (Record r) = notice.notice_number r.notice
-line_number (Refused n) = n
+abbrev pub line_number : Result Record Refusal → ℕ
+line_number (Ok r) = notice.notice_number r.notice
+line_number (Err r) = number_of r
 
 -- where the comment begins; none for a line that gives 12
-unfoldable pub comment_at : List ℕ → CommentPlace
-comment_at line = cond (is_line line) (comment-place.At (comment_place line)) comment-place.None
+unfoldable pub comment_at : List ℕ → Option ℕ
+comment_at line = cond (is_line line) (Some (comment_place line)) None
 
 -- where the comment's part begins; the empty part at the line's start for a line that gives 12
 unfoldable pub comment_start : List ℕ → ℕ

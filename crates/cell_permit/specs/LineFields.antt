@@ -1,5 +1,5 @@
 -- A line of PERMIT.TXT in the words of the rules: its fields one after the other, with commas between. Given without its CR LF.
-use Rattle.std.specs.Prelude.{◌≡◌, true, List, [], ◌∷◌, ◌++◌, ℕ, zero, suc, ◌≤◌, length}
+use Rattle.std.specs.Prelude.{◌≡◌, true, List, [], ◌∷◌, ◌++◌, ℕ, zero, suc, ◌≤◌, length, Some}
 use Rattle.octets.specs.Numbers.{bytes_of}
 use Rattle.octets.specs.Every.{all_of}
 use Rattle.text.specs.Characters.{is_hex, is_printable, hex_number, decimal_text}
@@ -9,7 +9,6 @@ use Rattle.forms.specs.Identifiers.{is_cell_name, is_server_id}
 use Rattle.cell_permit.specs.CellPermit.{comma}
 use Rattle.cell_permit.specs.Line.{is_line, shape_of, comment_of}
 use Rattle.cell_permit.specs.declared.Parts.{Parts}
-use Rattle.cell_permit.specs.declared.Shape.TheVariants as shape
 
 -- what stands in a line; the two keys and the check enciphered, as the texts that they are
 pub record LineFields : Type 0 where
@@ -61,21 +60,21 @@ pub record AreFields (f : LineFields) : Type 0 where
 -- what a line of these fields must be read as
 abbrev pub parts_for : LineFields → Parts
 parts_for f = record {
-  name = f.name;
-  block1 = hex_number f.key1;
-  block2 = hex_number f.key2;
-  check = hex_number f.check;
-  expiry = f.expiry;
-  level = f.level;
-  edition = f.edition;
-  server = f.server;
+  permit = record {
+    name = f.name;
+    block1 = hex_number f.key1;
+    block2 = hex_number f.key2;
+    check = hex_number f.check;
+    expiry = f.expiry;
+  };
+  fields = record { level = f.level; edition = f.edition; server = f.server };
 }
 
 -- a line of any fields is read as those, and its comment is the one that stands there
 abbrev pub FieldsRead : Type 0
 FieldsRead =
     (f : LineFields) → AreFields f
-    → (shape_of (line_text f) ≡ shape.Line (parts_for f)) × (comment_of (line_text f) ≡ f.comment)
+    → (shape_of (line_text f) ≡ Some (parts_for f)) × (comment_of (line_text f) ≡ f.comment)
 
 -- fields of which this is the line
 pub record WrittenAs (line : List ℕ) : Type 0 where

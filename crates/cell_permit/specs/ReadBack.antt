@@ -1,16 +1,16 @@
 -- What cell permits promise: what we issue reads back.
-use Rattle.std.specs.Prelude.{◌≡◌, true, ◌++◌, ℕ, ◌≤◌, length}
+use Rattle.std.specs.Prelude.{◌≡◌, true, ◌++◌, ℕ, ◌≤◌, length, Result, Ok}
 use Rattle.forms.specs.Output.{text}
+use Rattle.forms.specs.declared.refusals.Refusal.{Refusal}
 use Rattle.cell_permit.specs.CellPermit.{ship_words, line_of, line_end, is_cell, written_line}
 use Rattle.cell_permit.specs.Line.{notice_for, given_number, read_line}
 use Rattle.cell_permit.specs.declared.Cell.{Cell}
-use Rattle.cell_permit.specs.declared.Line.{Line}
-use Rattle.cell_permit.specs.declared.Line.TheVariants.{Record}
+use Rattle.cell_permit.specs.declared.Record.{Record}
 
 -- the record that a line written from a cell must read as
-abbrev pub record_for : ℕ → ℕ → Cell → Line
+abbrev pub record_for : ℕ → ℕ → Cell → Result Record Refusal
 record_for today days cell =
-    Record (record {
+    Ok (record {
       name = cell.name;
       key1 = cell.key1;
       key2 = cell.key2;

@@ -1,4 +1,5 @@
 -- An accepted user permit, its letters raised, is the one that making gives for what it was read to. Assumes nothing.
+use Rattle.std.specs.Prelude.{Some}
 use mathlib.Core.Path.{◌≡◌, sym, ap, ◌∙◌}
 use mathlib.Core.List.{List, ◌++◌}
 use Prim.Native.Nat.{ℕ, ◌^◌, ◌<◌}
@@ -24,7 +25,7 @@ use Rattle.forms.proofs.HwIds.{upper_stays, upper_given}
 use Rattle.user_permit.specs.Register.{key_of}
 use Rattle.user_permit.specs.UserPermit.{maker_words, hw_id_part, crc_part, m_id_part, user_permit}
 use Rattle.user_permit.specs.OneShip.{AcceptedAsMade}
-use Rattle.user_permit.specs.declared.register.Maker.TheVariants.{Key}
+use Rattle.user_permit.specs.declared.Ship.{Ship}
 use Rattle.user_permit.proofs.PermitsBack.{maker_words_fit}
 use Rattle.user_permit.proofs.ShipRead.{Accepted, accepted}
 use Rattle.user_permit.proofs.UserPermits.{first_hex, second_hex, third_hex, made-text}
@@ -34,9 +35,15 @@ whole : (s : List ℕ) → length s ≡ 28 → part 16 s 0 ++ (part 8 s 16 ++ pa
 whole s size =
     ap (λ (l : List ℕ). part 16 s 0 ++ l) (sym (part_join 8 4 s 16)) ∙ sym (part_join 16 12 s 0) ∙ take_all 28 s (omega arith)
 
-module _ (register s : List ℕ) (hw m : ℕ) (a : Accepted register s hw m) where
+module _ (register s : List ℕ) (ship : Ship) (a : Accepted register s ship) where
   abbrev key : ℕ
   key = a.under.key
+
+  abbrev hw : ℕ
+  hw = ship.hw_id
+
+  abbrev m : ℕ
+  m = ship.m_id
 
   -- what was deciphered and is padded and enciphered again is the block that stands there
   same_block : encipher_of (maker_words key) (pad_of 5 (raised_hw_id hw)) ≡ hex_number (part 16 s 0)
@@ -67,11 +74,11 @@ module _ (register s : List ℕ) (hw m : ℕ) (a : Accepted register s hw m) whe
       rw (same_crc, same_hw_id, same_m_id)
       (rw (part-raised 16 s 0, part-raised 8 s 16, part-raised 4 s 24) at (whole (raised_text s) (length-map s raised ∙ a.size)))
 
-  known : key_of register m ≡ Key key
+  known : key_of register m ≡ Some key
   known = ap (key_of register) (sym a.under.m_id) ∙ a.under.found
 
 pub accepted_as_made : AcceptedAsMade
-accepted_as_made register s hw m room ship long =
-    let a = accepted register s hw m ship in
-    made-text register hw m room a.undamaged long (upper_given hw a.under.form) a.under.key (known register s hw m a)
-    ∙ ap text (same_permit register s hw m a)
+accepted_as_made register s ship room is long =
+    let a = accepted register s ship is in
+    made-text register ship.hw_id ship.m_id room a.undamaged long (upper_given ship.hw_id a.under.form) a.under.key (known register s ship a)
+    ∙ ap text (same_permit register s ship a)

@@ -1,4 +1,5 @@
 -- An accepted user permit with one of its first 24 characters changed by more than its case is refused. Assumes nothing.
+use Rattle.std.specs.Prelude.{Result, Ok, Err}
 use mathlib.Core.Path.{◌≡◌, refl, sym, ap, ◌∙◌}
 use mathlib.Core.Bool.{true}
 use mathlib.Core.List.{List}
@@ -18,26 +19,29 @@ use Rattle.crc32.specs.Crc32.{crc32_of}
 use Rattle.crc32.specs.OneChange.{DifferAt}
 use Rattle.crc32.proofs.OneChange.{one_change}
 use Rattle.forms.proofs.OnePlace.{part_before, part-after, part-differs, raised_differ}
+use Rattle.forms.specs.declared.refusals.Refusal.{Refusal}
 use Rattle.user_permit.specs.UserPermit.{read_permit}
-use Rattle.user_permit.specs.Answers.{ship_hw_id, ship_mId}
 use Rattle.user_permit.specs.OneCharacter.{is_ship, UserPermitGuarded}
-use Rattle.user_permit.specs.declared.UserPermit.{UserPermit}
-use Rattle.user_permit.specs.declared.UserPermit.TheVariants.{Ship, Refused}
+use Rattle.user_permit.specs.declared.Ship.{Ship}
 use Rattle.user_permit.proofs.ShipRead.{Accepted, accepted}
 use Rattle.user_permit.proofs.UserPermits.{second_hex}
 
--- a permit that is accepted is read as a ship
-is_ship_lem : (answer : UserPermit) → is_ship answer ≡ true → answer ≡ Ship (ship_hw_id answer) (ship_mId answer)
-is_ship_lem (Ship hw m) is = refl
-is_ship_lem (Refused n) is = cc
+-- the ship that an accepted permit is read as
+abbrev ship_in : Result Ship Refusal → Ship
+ship_in (Ok ship) = ship
+ship_in (Err r) = record { hw_id = 0; m_id = 0 }
 
-of_ship : (register s : List ℕ) → is_ship (read_permit register s) ≡ true → Accepted register s (ship_hw_id (read_permit register s)) (ship_mId (read_permit register s))
-of_ship register s is = accepted register s (ship_hw_id (read_permit register s)) (ship_mId (read_permit register s)) (is_ship_lem (read_permit register s) is)
+is_ship_lem : (answer : Result Ship Refusal) → is_ship answer ≡ true → answer ≡ Ok (ship_in answer)
+is_ship_lem (Ok ship) is = refl
+is_ship_lem (Err r) is = cc
+
+of_ship : (register s : List ℕ) → is_ship (read_permit register s) ≡ true → Accepted register s (ship_in (read_permit register s))
+of_ship register s is = accepted register s (ship_in (read_permit register s)) (is_ship_lem (read_permit register s) is)
 
 part_below : (n : ℕ) (s : List ℕ) (at : ℕ) → Below 256 s → Below 256 (part n s at)
 part_below n s at below = take_below n (drop at s) (drop_below at s below)
 
-module _ {register : List ℕ} {hw m hw₂ m₂ : ℕ} (s t : List ℕ) (i : ℕ) (change : DifferAt i s t) (more : raised (get_or s i 0) ≡ raised (get_or t i 0) → ⊥) (a : Accepted register s hw m) (b : Accepted register t hw₂ m₂) where
+module _ {register : List ℕ} {one two : Ship} (s t : List ℕ) (i : ℕ) (change : DifferAt i s t) (more : raised (get_or s i 0) ≡ raised (get_or t i 0) → ⊥) (a : Accepted register s one) (b : Accepted register t two) where
   -- the change is still there with letters raised, in the part that it is in
   differs : (n at : ℕ) → at + n ≤ length s → at ≤ i → i < at + n → DifferAt (i - at) (raised_text (part n s at)) (raised_text (part n t at))
   differs n at within low high =

@@ -1,5 +1,6 @@
 -- What making gives reads back. Assumes nothing.
-use mathlib.Core.Path.{◌≡◌, refl, sym, ap, ap₂, ◌∙◌}
+use Rattle.std.specs.Prelude.{Some}
+use mathlib.Core.Path.{◌≡◌, sym, ap, ap₂, ◌∙◌}
 use mathlib.Core.Bool.{true}
 use mathlib.Core.List.{List}
 use Prim.Native.Nat.{ℕ, ◌^◌, ◌<◌}
@@ -7,7 +8,6 @@ use native.Mathlib.Omega.{arith}
 use lib.ListN.{length}
 use Rattle.octets.specs.Numbers.{Below, bytes_of}
 use Rattle.octets.specs.Padding.{pad_of, unpad_of}
-use Rattle.octets.specs.declared.numbers.Reading.TheVariants.{Number}
 use Rattle.octets.proofs.Digits.{digits_below}
 use Rattle.octets.proofs.Pads.{unpad-pad-fit, pad-below}
 use Rattle.text.specs.Characters.{raised_text, is_upper_hex, hex_number}
@@ -25,7 +25,7 @@ use Rattle.user_permit.specs.Register.{key_of}
 use Rattle.user_permit.specs.UserPermit.{maker_words, hw_id_part, crc_part, m_id_part, user_permit, is_crc_right, permit_mId, ship_of}
 use Rattle.user_permit.specs.ReadBack.{UserPermitReadsBack}
 use Rattle.user_permit.proofs.Registers.{found-id}
-use Rattle.user_permit.proofs.UserPermits.{a_ship, hw_id_written, permit_length, first_part, second_part, third_part, permit_hex, permit_text_lem, crc_right, made-text, says-known, read_undamaged}
+use Rattle.user_permit.proofs.UserPermits.{hw_id_written, permit_length, first_part, second_part, third_part, permit_hex, permit_text_lem, crc_right, made-text, says-known, read_undamaged}
 
 crc_fits : (s : List ℕ) → crc32_of s < 16 ^ 8
 unfolding crc32_of
@@ -49,7 +49,7 @@ module _ (key hw m : ℕ) where
   permit_m_id fits = ap hex_number (third_part key hw m) ∙ number_of_text_fit hex 4 m (omega arith)
 
   permit_hw_id : is_hw_id hw ≡ true
-      → unpad_of 5 (decipher_of (maker_words key) (hex_number (part 16 (user_permit key hw m) 0))) ≡ Number (raised_hw_id hw)
+      → unpad_of 5 (decipher_of (maker_words key) (hex_number (part 16 (user_permit key hw m) 0))) ≡ Some (raised_hw_id hw)
   unfolding hw_id_part
   permit_hw_id right =
       let id = raised_hw_id hw in
@@ -70,4 +70,4 @@ user_permit_reads_back register key hw m room below good right found long =
     read_undamaged register permit good
     ∙ says-known register permit (permit_text_lem permit size (permit_hex key hw m)) (permit_crc_right key hw m) key
     (ap (key_of register) id ∙ found) in
-    (made-text register hw m room good long right key found, (size, read ∙ ap₂ ship_of (permit_hw_id key hw m right) id ∙ a_ship (Number (raised_hw_id hw)) (raised_hw_id hw) m refl (raised_upper hw right)))
+    (made-text register hw m room good long right key found, (size, read ∙ ap₂ ship_of (permit_hw_id key hw m right) id ∙ (rw (raised_upper hw right))))

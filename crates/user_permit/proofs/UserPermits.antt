@@ -1,51 +1,42 @@
 -- The parts of a user permit, and what each step of making and reading one answers.
 -- Assumes nothing.
+use Rattle.std.specs.Prelude.{Some}
 use mathlib.Core.Path.{◌≡◌, refl, sym, ap, ap₂, ◌∙◌}
-use mathlib.Core.Bool.{Bool, true, false, ◌&&◌}
+use mathlib.Core.Bool.{true, ◌&&◌}
 use mathlib.Core.List.{List, [], ◌++◌, append_assoc, append-nil}
-use Prim.Native.Nat.{ℕ, ◌≤◌, ◌<◌}
+use Prim.Native.Nat.{ℕ, ◌≤◌, ◌<◌, ◌^◌}
 use native.Mathlib.Omega.{arith}
-use borrow.Author.Tests.{eq-eqb, ne_eqb, le-leb, lt-leb, eqb-true}
+use borrow.Author.Tests.{eq-eqb, le-leb, eqb-true}
 use lib.Dec.{eqb}
 use lib.ListN.{length, take, drop, length-append}
 use lib.Seq.{take_all, take_at}
 use Rattle.octets.specs.Numbers.{bytes_of}
 use Rattle.octets.specs.Every.{all_of}
 use Rattle.octets.specs.Padding.{pad_of, unpad_of}
-use Rattle.octets.specs.declared.numbers.Reading.{Reading}
-use Rattle.octets.specs.declared.numbers.Reading.TheVariants.{Number}
 use Rattle.octets.proofs.Digits.{digits-length}
-use Rattle.octets.proofs.Every.{and_first, either}
+use Rattle.octets.proofs.Every.{and_first, and_second, same_tests}
 use Rattle.text.specs.Characters.{raised_text, is_upper_hex, is_hex, hex_text, hex_number}
 use Rattle.text.specs.Texts.{part, all_at, placed}
 use Rattle.text.proofs.Alphabets.{text_length_lem, text_written_lem, written_is_read}
 use Rattle.text.proofs.Notations.{hex}
+use Rattle.text.proofs.NumbersAt.{hex_bound}
 use Rattle.text.proofs.PlacedTexts.{placed_start, placed-next}
 use Rattle.text.proofs.TextsAt.{part_front, all_append, all_inside, all_join, all_left, all_right}
 use Rattle.crc32.specs.Crc32.{crc32_of}
 use Rattle.blowfish.specs.Cipher.{encipher_of, decipher_of}
 use Rattle.blowfish.specs.Schedule.{schedule, scheduled}
 use Rattle.blowfish.proofs.Keys.{taken}
-use Rattle.forms.specs.Order.{demand}
-use Rattle.forms.specs.Identifiers.{is_hw_id, is_upper_hw_id, raised_hw_id}
-use Rattle.forms.specs.Output.{text, refusal}
+use Rattle.forms.specs.Identifiers.{is_hw_id, raised_hw_id}
+use Rattle.forms.specs.Output.{text}
 use Rattle.user_permit.specs.Register.{is_register, key_of}
 use Rattle.user_permit.specs.UserPermit.{maker_words, hw_id_part, crc_part, m_id_part, user_permit, made, is_permit_text, is_crc_right, permit_mId, ship_of, permit_says, read_permit}
 use Rattle.user_permit.specs.Laws.{ReadUndamaged}
-use Rattle.user_permit.specs.declared.register.Maker.TheVariants.{Key, Unknown}
-use Rattle.user_permit.specs.declared.UserPermit.TheVariants.{Ship, Refused}
 
 -- an M_KEY is a key of five bytes, so its words are found
 pub maker_words_lem : (key : ℕ) (bytes before words : List ℕ) → bytes ≡ bytes_of 5 key → words ≡ scheduled bytes before → words ≡ maker_words key
 maker_words_lem key bytes before words e done =
     let five : length bytes ≡ 5 = ap length e ∙ digits-length 256 5 key in
     done ∙ sym (taken bytes before (omega arith) (omega arith)).1 ∙ ap schedule e
-
-pub no_hw_id : (x : Reading) (hw m : ℕ) → x ≡ Number hw → is_upper_hw_id hw ≡ false → ship_of x m ≡ Refused 18
-no_hw_id x hw m e wrong = ap (λ (y : Reading). ship_of y m) e ∙ ap (λ (b : Bool). demand b (Refused 18) (Ship hw m)) wrong
-
-pub a_ship : (x : Reading) (hw m : ℕ) → x ≡ Number hw → is_upper_hw_id hw ≡ true → ship_of x m ≡ Ship hw m
-a_ship x hw m e right = rw (e, right)
 
 crc_length : (s : List ℕ) → length (crc_part s) ≡ 8
 unfolding crc_part
@@ -122,10 +113,6 @@ module _ (key hw m : ℕ) where
 
 -- 28 characters are hex where those of the three parts are
 module _ (permit : List ℕ) where
-  pub not_28 : (length permit ≡ 28 → ⊥) → is_permit_text permit ≡ false
-  unfolding is_permit_text
-  not_28 h = ap (λ (b : Bool). b && all_of is_hex permit) (ne_eqb (length permit) 28 h)
-
   pub permit_text_lem : length permit ≡ 28 → all_of is_hex permit ≡ true → is_permit_text permit ≡ true
   unfolding is_permit_text
   permit_text_lem h all = rw (eq-eqb (length permit) 28 h, all)
@@ -136,12 +123,6 @@ module _ (permit : List ℕ) where
     by_parts =
         rw (eq-eqb (length permit) 28 size)
         (sym (all_inside is_hex 28 permit 0 (omega arith) ∙ ap (all_of is_hex) (take_all 28 permit (omega arith))))
-
-    pub no_text : (n at : ℕ) → (all_at is_hex 28 permit 0 ≡ true → all_at is_hex n permit at ≡ true) → all_at is_hex n permit at ≡ false → is_permit_text permit ≡ false
-    no_text n at implies wrong = by_parts ∙ either (all_at is_hex 28 permit 0) (λ all. cc (implies all)) (λ bad. bad)
-
-    pub parts-hex : all_at is_hex 16 permit 0 ≡ true → all_at is_hex 8 permit 16 ≡ true → all_at is_hex 4 permit 24 ≡ true → is_permit_text permit ≡ true
-    parts-hex first second third = by_parts ∙ all_join is_hex 16 12 permit 0 first (all_join is_hex 8 4 permit 16 second third)
 
   pub text_size : is_permit_text permit ≡ true → length permit ≡ 28
   unfolding is_permit_text
@@ -159,62 +140,36 @@ module _ (permit : List ℕ) where
   pub third_hex : all_at is_hex 28 permit 0 ≡ true → all_at is_hex 4 permit 24 ≡ true
   third_hex all = all_right is_hex 8 4 permit 16 (all_right is_hex 16 12 permit 0 all)
 
+  -- there are 28, and each of the three parts is hex
+  pub text_by_parts : is_permit_text permit ≡ (eqb (length permit) 28 && (all_at is_hex 16 permit 0 && (all_at is_hex 8 permit 16 && all_at is_hex 4 permit 24)))
+  text_by_parts =
+      same_tests (is_permit_text permit) _
+      (λ is. let all = text_hex is in rw (eq-eqb (length permit) 28 (text_size is), first_hex all, second_hex all, third_hex all))
+      (λ is.
+      let three = and_second (eqb (length permit) 28) _ is in
+      let last = and_second (all_at is_hex 16 permit 0) _ three in
+      by_parts (eqb-true (length permit) 28 (and_first (eqb (length permit) 28) _ is))
+      ∙ all_join is_hex 16 12 permit 0 (and_first (all_at is_hex 16 permit 0) _ three)
+      (all_join is_hex 8 4 permit 16 (and_first (all_at is_hex 8 permit 16) _ last) (and_second (all_at is_hex 8 permit 16) _ last)))
+
+  pub m_id_fits : all_at is_hex 4 permit 24 ≡ true → hex_number (part 4 permit 24) < 2 ^ 32
+  m_id_fits four = omega (arith, hex_bound 4 permit 24 four)
+
   pub crc_right : (check crc : ℕ) → check ≡ hex_number (part 8 permit 16) → crc ≡ crc32_of (raised_text (part 16 permit 0)) → check ≡ crc → is_crc_right permit ≡ true
   unfolding is_crc_right
   crc_right check crc is of same = eq-eqb (hex_number (part 8 permit 16)) (crc32_of (raised_text (part 16 permit 0))) (sym is ∙ same ∙ of)
 
-  pub crc_wrong : (check crc : ℕ) → check ≡ hex_number (part 8 permit 16) → crc ≡ crc32_of (raised_text (part 16 permit 0)) → (check ≡ crc → ⊥) → is_crc_right permit ≡ false
-  unfolding is_crc_right
-  crc_wrong check crc is of differ =
-      ne_eqb (hex_number (part 8 permit 16)) (crc32_of (raised_text (part 16 permit 0))) (λ same. differ (is ∙ same ∙ sym of))
-
 module _ (register : List ℕ) (hw m room : ℕ) where
-  pub made_damaged : is_register register ≡ false → made register hw m room ≡ refusal 109
+  pub made-text : is_register register ≡ true → 28 ≤ room → is_hw_id hw ≡ true → (key : ℕ) → key_of register m ≡ Some key
+      → made register hw m room ≡ text (user_permit key hw m)
   unfolding made
-  made_damaged bad = rw bad
-
-  module _ (good : is_register register ≡ true) where
-    pub made-short : room < 28 → made register hw m room ≡ refusal 108
-    unfolding made
-    made-short short = rw (good, lt-leb 28 room short)
-
-    module _ (long : 28 ≤ room) where
-      pub made-no-hw-id : is_hw_id hw ≡ false → made register hw m room ≡ refusal 18
-      unfolding made
-      made-no-hw-id wrong = rw (good, le-leb 28 room long, wrong)
-
-      module _ (right : is_hw_id hw ≡ true) where
-        pub made-unknown : key_of register m ≡ Unknown → made register hw m room ≡ refusal 107
-        unfolding made
-        made-unknown none = rw (good, le-leb 28 room long, right, none)
-
-        pub made-text : (key : ℕ) → key_of register m ≡ Key key → made register hw m room ≡ text (user_permit key hw m)
-        unfolding made
-        made-text key found = rw (good, le-leb 28 room long, right, found)
+  made-text good long right key found = rw (good, le-leb 28 room long, right, found)
 
 module _ (register permit : List ℕ) where
-  pub says_no_text : is_permit_text permit ≡ false → permit_says register permit ≡ Refused 106
+  pub says-known : is_permit_text permit ≡ true → is_crc_right permit ≡ true → (key : ℕ) → key_of register (permit_mId permit) ≡ Some key
+      → permit_says register permit ≡ ship_of (unpad_of 5 (decipher_of (maker_words key) (hex_number (part 16 permit 0)))) (permit_mId permit)
   unfolding permit_says
-  says_no_text bad = rw bad
-
-  module _ (hex_text : is_permit_text permit ≡ true) where
-    pub says-wrong-crc : is_crc_right permit ≡ false → permit_says register permit ≡ Refused 17
-    unfolding permit_says
-    says-wrong-crc bad = rw (hex_text, bad)
-
-    module _ (right : is_crc_right permit ≡ true) where
-      pub says-unknown : key_of register (permit_mId permit) ≡ Unknown → permit_says register permit ≡ Refused 107
-      unfolding permit_says
-      says-unknown none = rw (hex_text, right, none)
-
-      pub says-known : (key : ℕ) → key_of register (permit_mId permit) ≡ Key key
-          → permit_says register permit ≡ ship_of (unpad_of 5 (decipher_of (maker_words key) (hex_number (part 16 permit 0)))) (permit_mId permit)
-      unfolding permit_says
-      says-known key found = rw (hex_text, right, found)
-
-  pub read_damaged : is_register register ≡ false → read_permit register permit ≡ Refused 109
-  unfolding read_permit
-  read_damaged bad = rw bad
+  says-known hex_text right key found = rw (hex_text, right, found)
 
 pub read_undamaged : ReadUndamaged
 unfolding read_permit

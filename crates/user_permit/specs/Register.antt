@@ -1,9 +1,7 @@
 -- The register of manufacturers: 0 to 256 entries of seven bytes, M_ID then M_KEY, strictly rising by M_ID.
-use Rattle.std.specs.Prelude.{Bool, true, cond, ◌&&◌, ◌||◌, List, ℕ, zero, suc, ◌+◌, ◌-◌, ◌*◌, ◌/◌, ◌%◌, leb, ltb, eqb, length}
+use Rattle.std.specs.Prelude.{Bool, true, cond, ◌&&◌, ◌||◌, List, ℕ, zero, suc, ◌+◌, ◌-◌, ◌*◌, ◌/◌, ◌%◌, leb, ltb, eqb, length, Option, Some, None}
 use Rattle.octets.specs.Places.{number_at}
 use Rattle.forms.specs.Identifiers.{is_mId, is_mKey}
-use Rattle.user_permit.specs.declared.register.Maker.{Maker}
-use Rattle.user_permit.specs.declared.register.Maker.TheVariants.{Key, Unknown}
 
 -- the M_ID of entry i, counted from 0
 abbrev pub m_id_of : List ℕ → ℕ → ℕ
@@ -29,10 +27,10 @@ is_register register =
     eqb (length register % 7) 0 && leb (length register) 1792 && are_entries register (length register / 7)
 
 -- the M_KEY of an M_ID among the first n entries
-unfoldable pub key_among : List ℕ → ℕ → ℕ → Maker
-key_among register m zero = Unknown
-key_among register m (suc n) = cond (eqb (m_id_of register n) m) (Key (m_key_of register n)) (key_among register m n)
+unfoldable pub key_among : List ℕ → ℕ → ℕ → Option ℕ
+key_among register m zero = None
+key_among register m (suc n) = cond (eqb (m_id_of register n) m) (Some (m_key_of register n)) (key_among register m n)
 
--- the M_KEY of an M_ID, or that it is not in the register
-unfoldable pub key_of : List ℕ → ℕ → Maker
+-- the M_KEY of an M_ID, if it is in the register
+unfoldable pub key_of : List ℕ → ℕ → Option ℕ
 key_of register m = key_among register m (length register / 7)

@@ -1,10 +1,8 @@
 -- User permits: 28 characters, made and read.
-use Rattle.std.specs.Prelude.{Bool, ◌&&◌, List, ◌++◌, ℕ, leb, eqb, length}
+use Rattle.std.specs.Prelude.{Bool, ◌&&◌, List, ◌++◌, ℕ, leb, eqb, length, Option, Some, None, Result, Ok}
 use Rattle.octets.specs.Numbers.{bytes_of}
 use Rattle.octets.specs.Every.{all_of}
 use Rattle.octets.specs.Padding.{pad_of, unpad_of}
-use Rattle.octets.specs.declared.numbers.Reading.{Reading}
-use Rattle.octets.specs.declared.numbers.Reading.TheVariants.{Number, Wrong}
 use Rattle.text.specs.Characters.{raised_text, is_hex, hex_text, hex_number}
 use Rattle.text.specs.Texts.{part}
 use Rattle.crc32.specs.Crc32.{crc32_of}
@@ -13,11 +11,10 @@ use Rattle.blowfish.specs.Schedule.{schedule}
 use Rattle.forms.specs.Order.{demand}
 use Rattle.forms.specs.Identifiers.{is_hw_id, is_upper_hw_id, raised_hw_id}
 use Rattle.forms.specs.Output.{Output, text, refusal}
+use Rattle.forms.specs.Refusals.{refused}
+use Rattle.forms.specs.declared.refusals.Refusal.{Refusal}
 use Rattle.user_permit.specs.Register.{is_register, key_of}
-use Rattle.user_permit.specs.declared.register.Maker.{Maker}
-use Rattle.user_permit.specs.declared.register.Maker.TheVariants.{Key, Unknown}
-use Rattle.user_permit.specs.declared.UserPermit.{UserPermit}
-use Rattle.user_permit.specs.declared.UserPermit.TheVariants.{Ship, Refused}
+use Rattle.user_permit.specs.declared.Ship.{Ship}
 
 -- the words of an M_KEY, which is a key of five bytes
 abbrev pub maker_words : ℕ → List ℕ
@@ -40,9 +37,9 @@ unfoldable pub user_permit : ℕ → ℕ → ℕ → List ℕ
 user_permit key hw m = hw_id_part key hw ++ (crc_part (hw_id_part key hw) ++ m_id_part m)
 
 -- with the manufacturer's key, if there is one: 107 where M_ID is not in the register
-abbrev pub made_for : Maker → ℕ → ℕ → Output
-made_for (Key key) hw m = text (user_permit key hw m)
-made_for Unknown hw m = refusal 107
+abbrev pub made_for : Option ℕ → ℕ → ℕ → Output
+made_for (Some key) hw m = text (user_permit key hw m)
+made_for None hw m = refusal 107
 
 -- making one, into an output of so many bytes
 unfoldable pub made : List ℕ → ℕ → ℕ → ℕ → Output
@@ -65,27 +62,22 @@ abbrev pub permit_mId : List ℕ → ℕ
 permit_mId permit = hex_number (part 4 permit 24)
 
 -- what was deciphered has its padding and the form of a HW_ID in upper case, else 18
-abbrev pub ship_of : Reading → ℕ → UserPermit
-ship_of (Number hw) m = demand (is_upper_hw_id hw) (Refused 18) (Ship hw m)
-ship_of Wrong m = Refused 18
+abbrev pub ship_of : Option ℕ → ℕ → Result Ship Refusal
+ship_of (Some hw) m = demand (is_upper_hw_id hw) (refused 18) (Ok (record { hw_id = hw; m_id = m }))
+ship_of None m = refused 18
 
 -- with the manufacturer's key, if there is one: 107 where M_ID is not in the register
-abbrev pub read_under : Maker → List ℕ → UserPermit
-read_under (Key key) permit = ship_of (unpad_of 5 (decipher_of (maker_words key) (hex_number (part 16 permit 0)))) (permit_mId permit)
-read_under Unknown permit = Refused 107
+abbrev pub read_under : Option ℕ → List ℕ → Result Ship Refusal
+read_under (Some key) permit = ship_of (unpad_of 5 (decipher_of (maker_words key) (hex_number (part 16 permit 0)))) (permit_mId permit)
+read_under None permit = refused 107
 
 -- what one says by the register's entries: 106, 17, 107, 18 in their order, or its ship
-unfoldable pub permit_says : List ℕ → List ℕ → UserPermit
+unfoldable pub permit_says : List ℕ → List ℕ → Result Ship Refusal
 permit_says register permit =
-    demand (is_permit_text permit) (Refused 106)
-    (demand (is_crc_right permit) (Refused 17)
+    demand (is_permit_text permit) (refused 106)
+    (demand (is_crc_right permit) (refused 17)
     (read_under (key_of register (permit_mId permit)) permit))
 
 -- reading one
-unfoldable pub read_permit : List ℕ → List ℕ → UserPermit
-read_permit register permit = demand (is_register register) (Refused 109) (permit_says register permit)
-
--- the answer's number: 0 for a ship
-abbrev pub user_permit_number : UserPermit → ℕ
-user_permit_number (Ship hw m) = 0
-user_permit_number (Refused n) = n
+unfoldable pub read_permit : List ℕ → List ℕ → Result Ship Refusal
+read_permit register permit = demand (is_register register) (refused 109) (permit_says register permit)

@@ -1,21 +1,18 @@
 -- The parts of a line, put one after the other, are the line.
 -- Assumes nothing.
-use mathlib.Core.Path.{◌≡◌, sym, ap, ◌∙◌}
+use mathlib.Core.Path.{◌≡◌, ap, ◌∙◌}
 use mathlib.Core.List.{List, [], ◌∷◌, ◌++◌, append_assoc}
-use Prim.Native.Nat.{ℕ, ◌+◌, ◌/◌, ◌%◌, ◌≤◌}
-use native.Mathlib.Nat.{div-one}
+use Prim.Native.Nat.{ℕ, ◌+◌, ◌≤◌}
 use native.Mathlib.Numerals.{add-one}
 use native.Mathlib.Omega.{arith}
 use lib.ListN.{length, take, drop, set, length-append}
-use lib.Seq.{take_at, length-take-le}
-use Rattle.octets.specs.Numbers.{digits, bytes_of}
-use Rattle.octets.specs.Padding.{pad_of}
+use lib.Seq.{take_at}
+use Rattle.octets.specs.Numbers.{digits}
 use Rattle.text.specs.Characters.{hex_text, decimal_text}
 use Rattle.text.specs.Texts.{placed, width, numeral}
 use Rattle.text.proofs.Alphabets.{text_length_lem}
 use Rattle.text.proofs.Notations.{decimal}
-use Rattle.text.proofs.PlacedTexts.{length-placed, placed_start, placed_first, placed-next}
-use Rattle.blowfish.specs.Cipher.{encipher_of}
+use Rattle.text.proofs.PlacedTexts.{placed_start, placed_first, placed-next}
 use Rattle.cell_permit.specs.CellPermit.{comma, key_part, unchecked, check_of, cell_permit, fields, line_of, line_end}
 use Rattle.cell_permit.specs.declared.Cell.{Cell}
 use Rattle.cell_permit.proofs.LineSizes.{name, date, server, sizes, unchecked_size, permit_size, server_size, fields_size}
@@ -26,10 +23,6 @@ joined : (at n : ℕ) (t u s s₁ s₂ : List ℕ) → s₁ ≡ placed at t s �
 joined at n t u s s₁ s₂ first second place room =
     second ∙ ap (placed n u) first ∙ placed-next at n t u s place room
 
--- after a text is put there are as many bytes as before
-pub still_there : (n : ℕ) (t s s₁ : List ℕ) → s₁ ≡ placed 0 t s → 76 ≤ length s → n ≤ 76 → n ≡ length (take n s₁)
-still_there n t s s₁ put room few = sym (length-take-le n s₁ (omega (arith, ap length put ∙ length-placed 0 t s)))
-
 -- a comma and n digits after it
 pub number_placed : (at n x : ℕ) (s s₁ : List ℕ) → s₁ ≡ placed (at + 1) (decimal_text n x) (set s at comma) → at + (1 + n) ≤ length s
     → s₁ ≡ placed at (comma ∷ decimal_text n x) s
@@ -38,14 +31,7 @@ number_placed at n x s s₁ put room =
     ∙ ap (λ (k : ℕ). placed k (decimal_text n x) (set s at comma)) (add-one at)
     ∙ placed_first at comma (decimal_text n x) s (omega (arith, text_length_lem decimal n x))
 
--- a Data Server ID between commas, byte by byte
-pub server_placed : (at x : ℕ) (s s₁ : List ℕ) → s₁ ≡ placed at (comma ∷ x / 256 % 256 ∷ x % 256 ∷ comma ∷ []) s
-    → s₁ ≡ placed at ((comma ∷ bytes_of 2 x) ++ (comma ∷ [])) s
-unfolding digits
-server_placed at x s s₁ put =
-    put ∙ ap (λ (y : ℕ). placed at (comma ∷ x / 256 % 256 ∷ y % 256 ∷ comma ∷ []) s) (sym (div-one x))
-
-pub fields-placed : (cell : Cell) (n : ℕ) (s s₁ s₂ s₃ : List ℕ) → 76 ≤ length s → n ≡ width cell.edition → n ≤ 3
+pub fields-placed : (cell : Cell) (n : ℕ) (s s₁ s₂ s₃ : List ℕ) → length s ≡ 76 → n ≡ width cell.edition → n ≤ 3
     → s₁ ≡ placed 64 (comma ∷ decimal_text 1 cell.level) s → s₂ ≡ placed 66 (comma ∷ decimal_text n cell.edition) s₁
     → s₃ ≡ placed (67 + n) ((comma ∷ server cell) ++ (comma ∷ [])) s₂ → s₃ ≡ placed 64 (fields cell) s
 unfolding fields numeral
@@ -62,13 +48,7 @@ fields-placed cell n s s₁ s₂ s₃ room digits few e₁ e₂ e₃ =
     joined 64 (67 + n) (a ++ b) d s s₂ s₃ f e₃ (omega arith) (omega arith)
     ∙ ap (λ (l : List ℕ). placed 64 l s) (append_assoc a b d ∙ ap (λ (k : ℕ). a ++ ((comma ∷ decimal_text k e) ++ d)) digits)
 
-pub key_placed : (words : List ℕ) (key at padded block : ℕ) (s s₁ : List ℕ) → padded ≡ pad_of 5 key → block ≡ encipher_of words padded
-    → s₁ ≡ placed at (hex_text 16 block) s → s₁ ≡ placed at (key_part words key) s
-unfolding key_part
-key_placed words key at padded block s s₁ pad encipher put =
-    put ∙ ap (λ (x : ℕ). placed at (hex_text 16 x) s) (encipher ∙ ap (encipher_of words) pad)
-
-module _ (words : List ℕ) (cell : Cell) (s : List ℕ) (room : 76 ≤ length s) where
+module _ (words : List ℕ) (cell : Cell) (s : List ℕ) (room : length s ≡ 76) where
   pub unchecked-placed : (bytes s₁ s₂ s₃ s₄ : List ℕ) → bytes ≡ name cell → s₁ ≡ placed 0 bytes s → s₂ ≡ placed 8 (date cell) s₁
       → s₃ ≡ placed 16 (key_part words cell.key1) s₂ → s₄ ≡ placed 32 (key_part words cell.key2) s₃ → s₄ ≡ placed 0 (unchecked words cell) s
   unfolding unchecked
