@@ -5,8 +5,9 @@ use mathlib.Core.Bool.{true, false}
 use mathlib.Core.List.{List, ◌++◌}
 use Prim.Native.Nat.{ℕ, ◌+◌, ◌-◌, ◌*◌, ◌/◌, ◌%◌, ◌^◌, ◌≤◌, ◌<◌}
 use native.Mathlib.Omega.{arith}
-use borrow.Author.Tests.{lt-ltb, le-ltb, le-leb, lt-leb, leb-true, ltb-true}
+use borrow.Author.Tests.{lt-ltb, le-ltb, le-leb, leb-true, ltb-true}
 use lib.Dec.{leb}
+use Rattle.std.specs.Prelude.{Ok}
 use native.Mathlib.Nat.{one-le-pow}
 use lib.ListN.{length, take, drop, length-append, length-drop}
 use lib.Seq.{take_all}
@@ -20,9 +21,8 @@ use Rattle.blowfish.specs.Cipher.{encipher_of}
 use Rattle.blocks.specs.Blocks.{blocks_put}
 use Rattle.blocks.proofs.Puts.{put_start}
 use Rattle.forms.specs.Identifiers.{is_cell_key}
-use Rattle.forms.specs.Output.{text, refusal, Answered}
+use Rattle.forms.specs.Output.{text, Answered}
 use Rattle.forms.proofs.Outputs.{wrote}
-use Rattle.forms.specs.declared.Written.TheVariants as written
 use Rattle.cell_file.specs.Enciphering.{most, cell_words, enciphered, padded_file, file_written, is_carried, carried_on, end_written}
 use Rattle.cell_file.proofs.WholeBlocks.{carried-length, enciphered-length}
 use Rattle.cell_file.proofs.CutAnywhere.{file_done}
@@ -43,36 +43,10 @@ pub carried_says : (n x : ℕ) → is_carried n x ≡ true → (n ≤ 7) × (x <
 unfolding is_carried
 carried_says n x e = (leb-true n 7 (and_first _ _ e), ltb-true x (256 ^ n) (and_second (leb n 7) _ e))
 
-module _ (key : ℕ) (file : List ℕ) (room : ℕ) where
-  pub file_no_key : largest < key → file_written key file room ≡ refusal 103
-  unfolding file_written
-  file_no_key h = rw (no_key key h)
-
-  pub file_too_long : key ≤ largest → most < length file → file_written key file room ≡ refusal 103
-  unfolding file_written
-  file_too_long k h = rw (is_key_lem key k, lt-leb (length file) most h)
-
-  pub file_no_room : key ≤ largest → length file ≤ most → room < 8 * (length file / 8) + 8 → file_written key file room ≡ refusal 108
-  unfolding file_written
-  file_no_room k h r = rw (is_key_lem key k, le-leb (length file) most h, lt-leb (8 * (length file / 8 + 1)) room (omega arith))
-
-module _ (key x n room : ℕ) where
-  pub end_no_key : largest < key → end_written key x n room ≡ refusal 103
-  unfolding end_written
-  end_no_key h = rw (no_key key h)
-
-  pub end_not_carried : key ≤ largest → is_carried n x ≡ false → end_written key x n room ≡ refusal 103
-  unfolding end_written
-  end_not_carried k h = rw (is_key_lem key k, h)
-
-  pub end_no_room : key ≤ largest → is_carried n x ≡ true → room < 8 → end_written key x n room ≡ refusal 108
-  unfolding end_written
-  end_no_room k h r = rw (is_key_lem key k, h, lt-leb 8 room r)
-
 -- the end was written
 pub end_wrote : (key x n : ℕ) (words before after : List ℕ) → key ≤ largest → is_carried n x ≡ true → 8 ≤ length before
     → words ≡ cell_words key → after ≡ placed 0 (bytes_of 8 (encipher_of words (pad_of n x))) before
-    → Answered (end_written key x n (length before)) before (written.Length 8) after
+    → Answered (end_written key x n (length before)) before (Ok 8) after
 unfolding end_written
 end_wrote key x n words before after k carried room w is =
     let says = carried_says n x carried in
@@ -114,7 +88,7 @@ pub file_wrote : (key x : ℕ) (file words before middle after : List ℕ) → B
     → 8 * (length file / 8) + 8 ≤ length before → words ≡ cell_words key → middle ≡ blocks_put (encipher_of words) file before
     → x ≡ bytes_number (carried_on file)
     → after ≡ placed (8 * (length file / 8)) (bytes_of 8 (encipher_of words (pad_of (length file - 8 * (length file / 8)) x))) middle
-    → Answered (file_written key file (length before)) before (written.Length (8 * (length file / 8) + 8)) after
+    → Answered (file_written key file (length before)) before (Ok (8 * (length file / 8) + 8)) after
 unfolding enciphered
 file_wrote key x file words before middle after below k fits room w m e is =
     let whole = 8 * (length file / 8) in

@@ -1,12 +1,11 @@
 -- What the call on a part answers and writes, return by return.
 -- Assumes nothing.
 use mathlib.Core.Path.{◌≡◌, refl, sym, ap, ap₂, ◌∙◌}
-use mathlib.Core.Bool.{true, false}
+use mathlib.Core.Bool.{true}
 use mathlib.Core.List.{List, [], ◌++◌, append_assoc}
 use Prim.Native.Nat.{ℕ, ◌+◌, ◌-◌, ◌*◌, ◌/◌, ◌^◌, ◌≤◌, ◌<◌}
 use native.Mathlib.Nat.{one-le-pow, pow-le-pow_right, lt_of_lt_of_le}
 use native.Mathlib.Omega.{arith}
-use borrow.Author.Tests.{le-leb, lt-leb}
 use lib.Arith.{digits_lt}
 use lib.Pow.{pow-add}
 use lib.ListN.{length, take, drop, take-append-drop, length-append, length-drop}
@@ -21,14 +20,15 @@ use Rattle.blocks.specs.Blocks.{each_block, blocks_put}
 use Rattle.blocks.proofs.EachBlocks.{each_block-length}
 use Rattle.blocks.proofs.BackAgain.{one_block}
 use Rattle.blocks.proofs.Puts.{put_next}
-use Rattle.cell_file.specs.Enciphering.{most, cell_words, enciphered, is_carried, PartOutput, blocks, refused, carried_on, part_written}
+use Rattle.cell_file.specs.Enciphering.{most, cell_words, enciphered, is_carried, PartOutput, blocks, carried_on, part_written}
 use Rattle.cell_file.specs.Answers.{part_answer, part_lent}
-use Rattle.cell_file.specs.declared.PartWritten.{PartWritten}
-use Rattle.cell_file.specs.declared.PartWritten.TheVariants.{Done, Refused}
+use Rattle.std.specs.Prelude.{Result, Ok}
+use Rattle.forms.specs.declared.refusals.Refusal.{Refusal}
+use Rattle.cell_file.specs.declared.Part.{Part}
 use Rattle.cell_file.proofs.WholeBlocks.{enciphered-length}
 use Rattle.cell_file.proofs.CutAnywhere.{part_done_lem}
 use Rattle.cell_file.proofs.Pieces.{first_bytes, part_pieces}
-use Rattle.cell_file.proofs.Calls.{largest, is_key_lem, no_key}
+use Rattle.cell_file.proofs.Calls.{largest, is_key_lem}
 
 module _ (n x : ℕ) (part : List ℕ) (few : n ≤ 7) (fits : x < 256 ^ n) (enough : 8 ≤ n + length part) where
   -- the bytes of the part that make the carried ones a block
@@ -95,32 +95,12 @@ module _ (n x : ℕ) (part : List ℕ) (few : n ≤ 7) (fits : x < 256 ^ n) (eno
         ∙ ap (λ (l : List ℕ). l ++ drop (length l) out) pieces
         ∙ sym (placed_start t out (omega arith))
 
-module _ (key x n : ℕ) (part : List ℕ) (room : ℕ) where
-  pub part_no_key : largest < key → part_written key x n part room ≡ refused 103
-  unfolding part_written
-  part_no_key h = rw (no_key key h)
-
-  pub part_too_long : key ≤ largest → most < length part → part_written key x n part room ≡ refused 103
-  unfolding part_written
-  part_too_long k h = rw (is_key_lem key k, lt-leb (length part) most h)
-
-  pub part_not_carried : key ≤ largest → length part ≤ most → is_carried n x ≡ false → part_written key x n part room ≡ refused 103
-  unfolding part_written
-  part_not_carried k h e = rw (is_key_lem key k, le-leb (length part) most h, e)
-
-  pub part_no_room : key ≤ largest → length part ≤ most → is_carried n x ≡ true → room < 8 * ((n + length part) / 8) → part_written key x n part room ≡ refused 108
-  unfolding part_written
-  part_no_room k h e r = rw (is_key_lem key k, le-leb (length part) most h, e, lt-leb (8 * ((n + length part) / 8)) room r)
-
 -- what a call on a part answers and the lent output afterwards are those of what it gives
-abbrev pub PartAnswered : PartOutput → List ℕ → PartWritten → List ℕ → Type 0
+abbrev pub PartAnswered : PartOutput → List ℕ → Result Part Refusal → List ℕ → Type 0
 PartAnswered o before answer after = AnswerAndLent (part_answer o) (part_lent o before) answer after
 
-pub part_refused : (o : PartOutput) (n : ℕ) (before : List ℕ) → o ≡ refused n → PartAnswered o before (Refused n) before
-part_refused o n before e = (sym (ap part_answer e), sym (ap (λ (p : PartOutput). part_lent p before) e))
-
 part_answered : (o : PartOutput) (t c before after : List ℕ) (size x n : ℕ) → o ≡ blocks t c → size ≡ length t → x ≡ bytes_number c → n ≡ length c → after ≡ t ++ drop (length t) before
-    → PartAnswered o before (Done (record { length = size; carried = x; count = n })) after
+    → PartAnswered o before (Ok (record { length = size; carried = x; count = n })) after
 part_answered o t c before after size x n e size_is x_is n_is is =
     (rw (size_is, x_is, n_is) (sym (ap part_answer e)), is ∙ sym (ap (λ (p : PartOutput). part_lent p before) e))
 
@@ -143,7 +123,7 @@ module _ (n x : ℕ) (part : List ℕ) (few : n ≤ 7) (fits : x < 256 ^ n) wher
         (omega arith, lt_of_lt_of_le fits (pow-le-pow_right {n = 256} (omega arith) places))
 
     pub part_kept : (key y : ℕ) (before : List ℕ) → key ≤ largest → length part ≤ most → is_carried n x ≡ true → y ≡ x * 256 ^ length part + bytes_number part
-        → PartAnswered (part_written key x n part (length before)) before (Done (record { length = 0; carried = y; count = n + length part })) before
+        → PartAnswered (part_written key x n part (length before)) before (Ok (record { length = 0; carried = y; count = n + length part })) before
     unfolding enciphered each_block
     part_kept key y before k h carried gathered =
         let whole : length both / 8 ≡ 0 = omega (arith, both_length) in
@@ -178,7 +158,7 @@ module _ (n x : ℕ) (part : List ℕ) (few : n ≤ 7) (fits : x < 256 ^ n) wher
         → after ≡ placed 0 (each_block (encipher_of words) ((n + length part) / 8) both) before
         → y ≡ 0 * 256 ^ length left + bytes_number left
         → PartAnswered (part_written key x n part (length before)) before
-        (Done (record { length = 8 * ((n + length part) / 8); carried = y; count = length part - (8 * ((n + length part) / 8) - n) })) after
+        (Ok (record { length = 8 * ((n + length part) / 8); carried = y; count = length part - (8 * ((n + length part) / 8) - n) })) after
     unfolding enciphered
     part_wrote key y words before after k h carried room w is gathered =
         let t = enciphered key both in

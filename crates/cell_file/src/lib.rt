@@ -11,7 +11,7 @@ ghost use Rattle.forms.specs.Output.{written_of, lent_after};
 ghost use Rattle.cell_file.specs.Enciphering.{cell_words, file_written, is_carried, part_written, end_written};
 ghost use Rattle.cell_file.specs.Answers.{part_answer, part_lent};
 
-use forms::Written;
+use forms::refusals::Refusal;
 
 // The longest file and the longest part: 16 MiB.
 pub const MOST: usize = 16777216;
@@ -22,13 +22,6 @@ pub struct Part {
     pub length: usize,
     pub carried: u64,
     pub count: u32,
-}
-
-// What enciphering a part answers.
-#[derive(Clone, Copy)]
-pub enum PartWritten {
-    Done(Part),
-    Refused(u32),
 }
 
 // The words of a cell key.
@@ -43,17 +36,7 @@ pub fn cell_words(key: u64, words: &mut [u32; 1042])
 pub fn is_carried(n: u32, x: u64) -> bool
     ensures { result ≡ is_carried n x }
 {
-    match n {
-        0 => x < 1,
-        1 => x < 0x100,
-        2 => x < 0x1_0000,
-        3 => x < 0x100_0000,
-        4 => x < 0x1_0000_0000,
-        5 => x < 0x100_0000_0000,
-        6 => x < 0x1_0000_0000_0000,
-        7 => x < 0x100_0000_0000_0000,
-        _ => false,
-    }
+    n <= 7 && x < 256u64.pow(n)
 }
 
 // The number of the bytes that x is the number of, with those of s after them: eight at most.
@@ -62,11 +45,8 @@ fn gathered(x: u64, s: &[u8]) -> u64
     ensures { result ≡ x * 256 ^ length s.now + bytes_number s.now }
 {
     let mut gathered = x;
-    let mut i: usize = 0;
-    while i < s.len() {
-        let b = s[i] as u64;
-        gathered = gathered * 256 + b;
-        i += 1;
+    for b in s {
+        gathered = gathered * 256 + *b as u64;
     }
     gathered
 }
@@ -91,26 +71,24 @@ fn put_end(words: &[u32; 1042], n: usize, x: u64, out: &mut [u8], at: usize)
 }
 
 // Enciphers a file: 103 for a wrong key or a file that is too long, 108 for too short an output.
-pub fn encipher_file(key: u64, file: &[u8], out: &mut [u8]) -> Written
+#[tactic(auto, unfolding(crate::specs::Enciphering::file_written))]
+pub fn encipher_file(key: u64, file: &[u8], out: &mut [u8]) -> Result<usize, Refusal>
     ensures { (result ≡ written_of (file_written key file.now (length out.old)))
         × (out.new ≡ lent_after (file_written key file.now (length out.old)) out.old) }
 {
-    if 0xFF_FFFF_FFFF < key {
-        return Written::Refused(103);
-    }
-    if MOST < file.len() {
-        return Written::Refused(103);
+    if 0xFF_FFFF_FFFF < key || MOST < file.len() {
+        return Err(Refusal::Value);
     }
     let whole = 8 * (file.len() / 8);
     if out.len() < whole + 8 {
-        return Written::Refused(108);
+        return Err(Refusal::Room);
     }
     let mut words = [0u32; 1042];
     cell_words(key, &mut words);
     blocks::encipher_blocks(&words, file, out);
     let rest = gathered(0, &file[whole..]);
     put_end(&words, file.len() - whole, rest, out, whole);
-    Written::Length(whole + 8)
+    Ok(whole + 8)
 }
 
 // Writes the whole blocks of n carried bytes and a part: the first has the carried bytes in it.
@@ -124,26 +102,21 @@ fn put_part(words: &[u32; 1042], n: usize, x: u64, part: &[u8], out: &mut [u8])
 }
 
 // Enciphers a part after n carried bytes, whose number is x: 103 for a wrong key, a part that is too long or wrong carried bytes, 108 for too short an output.
-pub fn encipher_part(key: u64, x: u64, n: u32, part: &[u8], out: &mut [u8]) -> PartWritten
+#[tactic(auto, unfolding(crate::specs::Enciphering::part_written))]
+pub fn encipher_part(key: u64, x: u64, n: u32, part: &[u8], out: &mut [u8]) -> Result<Part, Refusal>
     ensures { (result ≡ part_answer (part_written key x n part.now (length out.old)))
         × (out.new ≡ part_lent (part_written key x n part.now (length out.old)) out.old) }
 {
-    if 0xFF_FFFF_FFFF < key {
-        return PartWritten::Refused(103);
-    }
-    if MOST < part.len() {
-        return PartWritten::Refused(103);
-    }
-    if !is_carried(n, x) {
-        return PartWritten::Refused(103);
+    if 0xFF_FFFF_FFFF < key || MOST < part.len() || !is_carried(n, x) {
+        return Err(Refusal::Value);
     }
     let carried = n as usize;
     let whole = 8 * ((carried + part.len()) / 8);
     if out.len() < whole {
-        return PartWritten::Refused(108);
+        return Err(Refusal::Room);
     }
     if whole == 0 {
-        return PartWritten::Done(Part {
+        return Ok(Part {
             length: 0,
             carried: gathered(x, part),
             count: n + part.len() as u32,
@@ -153,7 +126,7 @@ pub fn encipher_part(key: u64, x: u64, n: u32, part: &[u8], out: &mut [u8]) -> P
     cell_words(key, &mut words);
     put_part(&words, carried, x, part, out);
     let rest = whole - carried;
-    PartWritten::Done(Part {
+    Ok(Part {
         length: whole,
         carried: gathered(0, &part[rest..]),
         count: (part.len() - rest) as u32,
@@ -161,21 +134,19 @@ pub fn encipher_part(key: u64, x: u64, n: u32, part: &[u8], out: &mut [u8]) -> P
 }
 
 // Enciphers the end, after n carried bytes whose number is x: 103 for a wrong key or wrong carried bytes, 108 for too short an output.
-pub fn encipher_end(key: u64, x: u64, n: u32, out: &mut [u8]) -> Written
+#[tactic(auto, unfolding(crate::specs::Enciphering::end_written))]
+pub fn encipher_end(key: u64, x: u64, n: u32, out: &mut [u8]) -> Result<usize, Refusal>
     ensures { (result ≡ written_of (end_written key x n (length out.old)))
         × (out.new ≡ lent_after (end_written key x n (length out.old)) out.old) }
 {
-    if 0xFF_FFFF_FFFF < key {
-        return Written::Refused(103);
-    }
-    if !is_carried(n, x) {
-        return Written::Refused(103);
+    if 0xFF_FFFF_FFFF < key || !is_carried(n, x) {
+        return Err(Refusal::Value);
     }
     if out.len() < 8 {
-        return Written::Refused(108);
+        return Err(Refusal::Room);
     }
     let mut words = [0u32; 1042];
     cell_words(key, &mut words);
     put_end(&words, n as usize, x, out, 0);
-    Written::Length(8)
+    Ok(8)
 }

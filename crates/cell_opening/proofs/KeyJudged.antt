@@ -1,6 +1,6 @@
 -- What a key is judged to give, return by return, and the text that is written under it.
 -- Assumes nothing.
-use mathlib.Core.Path.{◌≡◌, sym, ap, ap₂, ◌∙◌}
+use mathlib.Core.Path.{◌≡◌, refl, sym, ap, ap₂, ◌∙◌}
 use mathlib.Core.Bool.{true, false}
 use mathlib.Core.List.{List, ◌++◌}
 use Prim.Native.Nat.{ℕ, ◌+◌, ◌-◌, ◌/◌, ◌≤◌, ◌<◌}
@@ -21,28 +21,32 @@ use Rattle.blocks.proofs.Puts.{put_start}
 use Rattle.cell_file.specs.Enciphering.{cell_words}
 use Rattle.cell_opening.specs.Opening.{deciphered, padding_of, is_padded_file, unpadded_file, gives_padding, text_under, has_blocks}
 use Rattle.cell_opening.specs.Judging.{padding_in, wholes, judged}
-use Rattle.cell_opening.specs.declared.Judged.TheVariants.{Right, OtherCrc, WrongPadding}
+use Rattle.std.specs.Prelude.{Option, Some, None, Ok, Err}
+use Rattle.forms.specs.Refusals.{refusal_of}
 use Rattle.cell_opening.proofs.LastBlock.{blocks_say, same_found, before, last, in_two, last_length, before_length, last_put}
 
+-- what is no Some is None
+pub none_left : (o : Option ℕ) → ((n : ℕ) → o ≡ Some n → ⊥) → o ≡ None
+none_left None h = refl
+none_left (Some n) h = absurd (h n refl)
+
 -- where there is padding it is right, of 1 to 8 bytes
-some_padding : (s : List ℕ) (n : ℕ) → n ≡ padding_in s → (n ≡ 0 → ⊥) → (is_padded_file s ≡ true) × ((n ≡ padding_of s) × (n ≤ 8))
+some_padding : (s : List ℕ) (n : ℕ) → Some n ≡ padding_in s → (is_padded_file s ≡ true) × ((n ≡ padding_of s) × (n ≤ 8))
 unfolding padding_in is_padded_file
-some_padding s n e some =
+some_padding s n e =
     either (is_padded_file s)
     (λ right.
-    let is : n ≡ padding_of s = e ∙ rw right in
+    let both : Some n ≡ Some (padding_of s) = e ∙ rw right in
+    let is : n ≡ padding_of s = cc both in
     (right, (is, omega (arith, is, leb-true (padding_of s) 8 (and_second (leb 1 (padding_of s)) _ (and_first _ _ right))))))
-    (λ wrong. absurd (some (e ∙ rw wrong)))
+    (λ wrong. let none : Some n ≡ None = e ∙ rw wrong in let z : ◌≡◌ {A = ℕ} 0 1 = cc none in absurd (omega arith))
 
 -- where there is none it is wrong
-no_padding : (s : List ℕ) → 0 ≡ padding_in s → is_padded_file s ≡ false
-unfolding padding_in is_padded_file
+no_padding : (s : List ℕ) → None ≡ padding_in s → is_padded_file s ≡ false
+unfolding padding_in
 no_padding s e =
     either (is_padded_file s)
-    (λ right.
-    let is : 0 ≡ padding_of s = e ∙ rw right in
-    let some : 1 ≤ padding_of s = leb-true 1 (padding_of s) (and_first _ _ (and_first _ _ right)) in
-    absurd (omega (arith, is)))
+    (λ right. let some : None ≡ Some (padding_of s) = e ∙ rw right in let z : ◌≡◌ {A = ℕ} 0 1 = cc some in absurd (omega arith))
     (λ wrong. wrong)
 
 module _ (key crc : ℕ) (file words : List ℕ) (form : has_blocks file ≡ true) (w : words ≡ cell_words key) where
@@ -54,28 +58,28 @@ module _ (key crc : ℕ) (file words : List ℕ) (form : has_blocks file ≡ tru
   unfolding deciphered
   all_length = let says = blocks_say file form in each_block-length (decipher_of (cell_words key)) (length file / 8) file ∙ omega (arith, says.1)
 
-  module _ (n : ℕ) (eight zeros : List ℕ) (size : length zeros ≡ 8)
-      (put : eight ≡ blocks_put (decipher_of words) (take (length file - (length file - 8)) (drop (length file - 8) file)) zeros) (found : n ≡ padding_in eight) where
-    found_in : n ≡ padding_in (deciphered key file)
+  module _ (found : Option ℕ) (eight zeros : List ℕ) (size : length zeros ≡ 8)
+      (put : eight ≡ blocks_put (decipher_of words) (take (length file - (length file - 8)) (drop (length file - 8) file)) zeros) (is : found ≡ padding_in eight) where
+    found_in : found ≡ padding_in (deciphered key file)
     found_in =
         let d = decipher_of words in
-        found
+        is
         ∙ ap padding_in (put ∙ last_put d file form zeros size)
         ∙ sym (same_found (before d file form) (last d file form) (last_length d file form))
         ∙ ap padding_in (sym (in_two d file form) ∙ all_is)
 
-    pub wrongly_padded : n ≡ 0 → WrongPadding ≡ judged crc key file
+    pub wrongly_padded : found ≡ None → Err (refusal_of 21) ≡ judged crc key file
     unfolding judged gives_padding
     wrongly_padded e = sym (rw (no_padding (deciphered key file) (sym e ∙ found_in)))
 
-    module _ (some : n ≡ 0 → ⊥) where
+    module _ (n : ℕ) (some : found ≡ Some n) where
       pub padding_fits : n ≤ 8
-      padding_fits = (some_padding (deciphered key file) n found_in some).1.1
+      padding_fits = (some_padding (deciphered key file) n (sym some ∙ found_in)).1.1
 
       text_is : take (length file - n) (wholes (decipher_of words) file) ≡ text_under key file
       unfolding text_under unpadded_file
       text_is =
-          let says = some_padding (deciphered key file) n found_in some in
+          let says = some_padding (deciphered key file) n (sym some ∙ found_in) in
           ap₂ (λ (k : ℕ) (l : List ℕ). take k l) (ap₂ (λ (a b : ℕ). a - b) (sym all_length) says.1.0) all_is
 
       text_length_lem : length (text_under key file) ≡ length file - n
@@ -85,19 +89,19 @@ module _ (key crc : ℕ) (file words : List ℕ) (form : has_blocks file ≡ tru
         crc_is : r ≡ crc32_of (text_under key file)
         crc_is = sum ∙ ap crc32_of text_is
 
-        pub other_crc : (r ≡ crc → ⊥) → OtherCrc ≡ judged crc key file
+        pub other_crc : (r ≡ crc → ⊥) → Err (refusal_of 16) ≡ judged crc key file
         unfolding judged gives_padding
         other_crc other =
-            let right = (some_padding (deciphered key file) n found_in some).0 in
+            let right = (some_padding (deciphered key file) n (sym some ∙ found_in)).0 in
             let differs : eqb (crc32_of (text_under key file)) crc ≡ false = ne_eqb _ _ (λ e. other (crc_is ∙ e)) in
             sym (rw (right, differs))
 
-        pub right_key : r ≡ crc → Right (length file - n) ≡ judged crc key file
+        pub right_key : r ≡ crc → Ok (length file - n) ≡ judged crc key file
         unfolding judged gives_padding
         right_key same =
-            let right = (some_padding (deciphered key file) n found_in some).0 in
+            let right = (some_padding (deciphered key file) n (sym some ∙ found_in)).0 in
             let agrees : eqb (crc32_of (text_under key file)) crc ≡ true = eq-eqb _ _ (sym crc_is ∙ same) in
-            sym (rw (right, agrees) (ap Right text_length_lem))
+            sym (rw (right, agrees) (ap Ok text_length_lem))
 
 -- the text is written: the blocks but the last, and as many bytes of the last as belong to the text
 pub text_put : (d : ℕ → ℕ) (file out o eight zeros after : List ℕ) (size : ℕ) → has_blocks file ≡ true → length file ≤ length out

@@ -2,10 +2,12 @@
 use mathlib.Core.Path.{◌≡◌, refl, sym, ap, ap₂, ◌∙◌}
 use mathlib.Core.Bool.{Bool, true, false, cond, ◌&&◌}
 use mathlib.Core.List.{List, ◌++◌, append-nil}
-use Prim.Native.Nat.{ℕ, ◌+◌, ◌-◌, ◌*◌, ◌/◌, ◌%◌, ◌≤◌, ◌<◌}
+use Prim.Native.Nat.{ℕ, ◌+◌, ◌-◌, ◌*◌, ◌/◌, ◌%◌, ◌≤◌}
 use native.Mathlib.Omega.{arith}
-use borrow.Author.Tests.{leb-true, lt-leb, le-leb, eqb-true}
-use lib.Dec.{leb}
+use borrow.Author.Tests.{leb-true, eqb-true}
+use lib.Dec.{leb, eqb}
+use Rattle.std.specs.Prelude.{Some, None}
+use Rattle.std.specs.List.{list_all}
 use lib.ListN.{length, get_or, take, drop, length-append, length-drop}
 use lib.Seq.{take_all, drop-length, drop-append-add, get_or-append-add}
 use Rattle.octets.proofs.Every.{either, and_first, and_second}
@@ -14,6 +16,7 @@ use Rattle.blocks.proofs.EachBlocks.{each_block-length}
 use Rattle.blocks.proofs.Cuts.{each_cut}
 use Rattle.blocks.proofs.Puts.{put_start}
 use Rattle.cell_opening.specs.Opening.{padding_of, is_padded_file, has_blocks}
+use Rattle.cell_opening.proofs.AllSame.{all_listed}
 use Rattle.cell_opening.specs.Judging.{all_are, padding_in, wholes}
 
 -- what a file's form says of its length
@@ -48,7 +51,7 @@ module _ (a b : List ℕ) (eight : length b ≡ 8) where
 
   pub same_found : padding_in (a ++ b) ≡ padding_in b
   unfolding padding_in
-  same_found = ap₂ (λ (t : Bool) (n : ℕ). cond t n 0) same_padding same_count
+  same_found = ap₂ (λ (t : Bool) (n : ℕ). cond t (Some n) None) same_padding same_count
 
 module _ (d : ℕ → ℕ) (file : List ℕ) (form : has_blocks file ≡ true) where
   -- the blocks but the last, and the last
@@ -94,25 +97,19 @@ module _ (s : List ℕ) (eight : length s ≡ 8) where
   count_is : padding_of s ≡ get_or s 7 0
   count_is = let e : length s - 1 ≡ 7 = omega arith in ap (λ (n : ℕ). get_or s n 0) e
 
-  found : padding_in s ≡ cond (leb 1 (get_or s 7 0) && leb (get_or s 7 0) 8 && all_are (get_or s 7 0) (drop (8 - get_or s 7 0) s)) (get_or s 7 0) 0
+  found : padding_in s ≡ cond (leb 1 (get_or s 7 0) && leb (get_or s 7 0) 8 && all_are (get_or s 7 0) (drop (8 - get_or s 7 0) s)) (Some (get_or s 7 0)) None
   unfolding padding_in is_padded_file
-  found = ap₂ (λ (n size : ℕ). cond (leb 1 n && leb n 8 && all_are n (drop (size - n) s)) n 0) count_is eight
+  found = ap₂ (λ (n size : ℕ). cond (leb 1 n && leb n 8 && all_are n (drop (size - n) s)) (Some n) None) count_is eight
 
-  pub none_added : get_or s 7 0 < 1 → 0 ≡ padding_in s
-  none_added h = sym (found ∙ rw (lt-leb 1 (get_or s 7 0) h))
-
-  pub too_many : 1 ≤ get_or s 7 0 → 8 < get_or s 7 0 → 0 ≡ padding_in s
-  too_many h more = sym (found ∙ rw (le-leb 1 (get_or s 7 0) h, lt-leb (get_or s 7 0) 8 more))
-
-  -- the bytes that should be padding, as the part that is lent
-  module _ (h : 1 ≤ get_or s 7 0) (few : get_or s 7 0 ≤ 8) (test : Bool) (is : test ≡ all_are (get_or s 7 0) (take (8 - (8 - get_or s 7 0)) (drop (8 - get_or s 7 0) s))) where
-    tested : test ≡ all_are (get_or s 7 0) (drop (8 - get_or s 7 0) s)
-    tested =
-        let k = 8 - get_or s 7 0 in
-        is ∙ ap (all_are (get_or s 7 0)) (take_all (8 - k) (drop k s) (omega (arith, length-drop k s)))
-
-    pub not_same : test ≡ false → 0 ≡ padding_in s
-    not_same e = sym (found ∙ rw (le-leb 1 (get_or s 7 0) h, le-leb (get_or s 7 0) 8 few, sym tested ∙ e))
-
-    pub all_added : test ≡ true → get_or s 7 0 ≡ padding_in s
-    all_added e = sym (found ∙ rw (le-leb 1 (get_or s 7 0) h, le-leb (get_or s 7 0) 8 few, sym tested ∙ e))
+-- with the bytes that should be padding as the part that is lent, and the test of the library
+pub found_lent : (s : List ℕ) → length s ≡ 8
+    → padding_in s
+    ≡ cond (leb 1 (get_or s 7 0) && leb (get_or s 7 0) 8 && list_all (λ (c : ℕ). eqb c (get_or s 7 0)) (take (8 - (8 - get_or s 7 0)) (drop (8 - get_or s 7 0) s)))
+    (Some (get_or s 7 0)) None
+found_lent s eight =
+    let n = get_or s 7 0 in
+    let k = 8 - n in
+    let lent : take (8 - k) (drop k s) ≡ drop k s = take_all (8 - k) (drop k s) (omega (arith, length-drop k s)) in
+    found s eight
+    ∙ ap (λ (t : Bool). cond (leb 1 n && leb n 8 && t) (Some n) None)
+    (sym (all_listed (λ (c : ℕ). eqb c n) (take (8 - k) (drop k s)) ∙ ap (all_are n) lent))

@@ -1,18 +1,8 @@
 -- `cell_file::encipher_file` meets its contract.
 use native.Mathlib.Omega.{arith}
 use Rattle.octets.specs.Numbers.{Below}
-use Rattle.forms.proofs.Outputs.{refused}
-use Rattle.cell_file.proofs.Calls.{file_no_key, file_too_long, file_no_room, rest_fits, rest_number, rest_carried, file_wrote}
+use Rattle.cell_file.proofs.Calls.{rest_fits, rest_number, rest_carried, file_wrote}
 use Rattle.cell_file.proofs.encipher_file.Goals as goal
-
-pub returns-then-key-gt1099511627775 : goal.returns-then-key-gt1099511627775
-returns-then-key-gt1099511627775 c = refused _ 103 _ (file_no_key _ _ _ (omega arith))
-
-pub returns-then-file-gt-MOST : goal.returns-then-file-gt-MOST
-returns-then-file-gt-MOST c = refused _ 103 _ (file_too_long _ _ _ (omega arith) (omega arith))
-
-pub returns-then-out-whole : goal.returns-then-out-whole
-returns-then-out-whole c = refused _ 108 _ (file_no_room _ _ _ (omega arith) (omega arith) (omega arith))
 
 pub gathered-rest-requires : goal.gathered-rest-requires
 gathered-rest-requires c =

@@ -2,24 +2,8 @@
 use mathlib.Core.Path.{sym, ◌∙◌}
 use native.Mathlib.Omega.{arith}
 use Rattle.cell_file.proofs.Calls.{carried_says}
-use Rattle.cell_file.proofs.PartCalls.{part_no_key, part_too_long, part_not_carried, part_no_room, part_refused, few_fit, part_kept, left_fits, part_wrote}
+use Rattle.cell_file.proofs.PartCalls.{few_fit, part_kept, left_fits, part_wrote}
 use Rattle.cell_file.proofs.encipher_part.Goals as goal
-
-pub returns-then-key-gt1099511627775 : goal.returns-then-key-gt1099511627775
-returns-then-key-gt1099511627775 c = part_refused _ 103 _ (part_no_key _ _ _ _ _ (omega arith))
-
-pub returns-then-part-gt-MOST : goal.returns-then-part-gt-MOST
-returns-then-part-gt-MOST c = part_refused _ 103 _ (part_too_long _ _ _ _ _ (omega arith) (omega arith))
-
-pub returns-then-not-is_carried : goal.returns-then-not-is_carried
-returns-then-not-is_carried c =
-    part_refused _ 103 _
-    (part_not_carried _ _ _ _ _ (omega arith) (omega arith) (sym c.is_carried.ensures ∙ c.if-not-is_carried.true))
-
-pub returns-then-out-whole : goal.returns-then-out-whole
-returns-then-out-whole c =
-    part_refused _ 108 _
-    (part_no_room _ _ _ _ _ (omega arith) (omega arith) (sym c.is_carried.ensures ∙ c.if-not-is_carried.false) (omega arith))
 
 pub gathered-requires : goal.gathered-requires
 gathered-requires c =

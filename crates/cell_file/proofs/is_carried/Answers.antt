@@ -1,43 +1,20 @@
--- `cell_file::is_carried` meets its contract, line by line of its table.
-use Prim.Native.Nat.{◌<◌}
-use native.Mathlib.Omega.{arith}
+-- `cell_file::is_carried` meets its contract: 256 ^ 7 has room in 64 bits.
+use Rattle.std.proofs.Common.{◌≤◌, ◌^◌, arith, le-leb}
+use native.Mathlib.Nat.{pow-le-pow_right}
 use borrow.Author.Tests.{lt-leb}
 use Rattle.cell_file.specs.Enciphering.{is_carried}
 use Rattle.cell_file.proofs.is_carried.Goals as goal
 
-pub returns-in-0 : goal.returns-in-0
-unfolding is_carried
-returns-in-0 c = rw c.in-0.is
+pub pow-requires : goal.pow-requires
+pow-requires c =
+    let seven : c.args.n ≤ 7 = omega arith in
+    let bound : 256 ^ c.args.n ≤ 256 ^ 7 = pow-le-pow_right {n = 256} (omega arith) seven in
+    omega (arith, bound)
 
-pub returns-in-1 : goal.returns-in-1
+pub returns-then-n-le7 : goal.returns-then-n-le7
 unfolding is_carried
-returns-in-1 c = rw c.in-1.is
+returns-then-n-le7 c = rw (le-leb c.args.n 7 c.if-n-le7.true, c.pow.ensures)
 
-pub returns-in-2 : goal.returns-in-2
+pub returns-else-n-le7 : goal.returns-else-n-le7
 unfolding is_carried
-returns-in-2 c = rw c.in-2.is
-
-pub returns-in-3 : goal.returns-in-3
-unfolding is_carried
-returns-in-3 c = rw c.in-3.is
-
-pub returns-in-4 : goal.returns-in-4
-unfolding is_carried
-returns-in-4 c = rw c.in-4.is
-
-pub returns-in-5 : goal.returns-in-5
-unfolding is_carried
-returns-in-5 c = rw c.in-5.is
-
-pub returns-in-6 : goal.returns-in-6
-unfolding is_carried
-returns-in-6 c = rw c.in-6.is
-
-pub returns-in-7 : goal.returns-in-7
-unfolding is_carried
-returns-in-7 c = rw c.in-7.is
-
--- more than seven
-pub returns-in_default : goal.returns-in_default
-unfolding is_carried
-returns-in_default c = let above : 7 < c.args.n = omega arith in rw (lt-leb c.args.n 7 above)
+returns-else-n-le7 c = rw (lt-leb c.args.n 7 c.if-n-le7.false)
