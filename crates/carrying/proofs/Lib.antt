@@ -1,4 +1,3 @@
-pub mod OldForms
 pub mod Wider
 pub mod Puts
 pub mod OldBooks

@@ -15,7 +15,10 @@ use Rattle.octets.proofs.Places.{number_at_below}
 use Rattle.text.specs.Texts.{same_text, placed}
 use Rattle.text.proofs.SameTexts.{same_refl}
 use Rattle.text.proofs.PlacedTexts.{placed_start}
-use Rattle.forms.specs.Output.{written_number, written_of, lent_after}
+use Rattle.std.specs.Prelude.{Result, Ok, ⊤}
+use Rattle.forms.specs.Output.{written_of, lent_after}
+use Rattle.forms.specs.Refusals.{refused, refusal_number, done_or}
+use Rattle.forms.specs.declared.refusals.Refusal.{Refusal}
 use Rattle.tenants.specs.Together.{Book, is_good}
 use Rattle.tenants.specs.Version1.{no_lasts}
 use Rattle.layout.specs.Layout.{one, two, book_size_by, record_place_by, setting_at, record_at_by, record_count_by, book_of_by, is_book_by, setting_place, each_from, book_size, is_book, book_of}
@@ -25,8 +28,9 @@ use Rattle.layout.proofs.ReadBack.{book-back}
 use Rattle.layout.proofs.Promises.{good_reads_back, undamaged_says, says_by}
 use Rattle.layout.proofs.Frame.{Frame, frame_written, frame_by, book_frame}
 use Rattle.carrying.specs.Carrying.{carried, carried_over, CarriesOver}
-use Rattle.carrying.specs.OldForm.{old_form, wider}
-use Rattle.carrying.proofs.OldForms.{form_facts, formed_test, formed_frame, frame_formed}
+use Rattle.judging.specs.Judging.{form_test}
+use Rattle.carrying.specs.OldForm.{wider}
+use Rattle.judging.proofs.Forms.{form_facts, formed_test, formed_frame, frame_formed}
 use Rattle.carrying.proofs.Wider.{old_last, wider_is, zeros_old}
 
 module _ (s : List ℕ) where
@@ -43,8 +47,8 @@ module _ (s : List ℕ) where
 pub old_frame : (s : List ℕ) → is_book_by one s ≡ true → Frame one s
 old_frame s undamaged = frame_by one s undamaged (no_lasts_lem (book_of_by one s).records (old_lasts s))
 
-old_form_lem : (s : List ℕ) → is_book_by one s ≡ true → old_form s ≡ true
-old_form_lem s undamaged = formed_test s (frame_formed s (old_frame s undamaged))
+old_form_lem : (s : List ℕ) → is_book_by one s ≡ true → form_test one s ≡ true
+old_form_lem s undamaged = formed_test one s (frame_formed one s (old_frame s undamaged))
 
 -- what holds wherever it is read holds of each
 each_from_lem : {A : Type 0} (Holds : A → Type 0) (at : ℕ → A) → ((i : ℕ) → Holds (at i)) → (i n : ℕ) → Each Holds (each_from at i n)
@@ -75,7 +79,7 @@ module _ (s : List ℕ) (below : Below 256 s) where
         last = omega (arith, last_none);
       }
 
-  module _ (form : old_form s ≡ true) where
+  module _ (form : form_test one s ≡ true) where
     -- its numbers fit version 2
     old_fits : BookFits two (book_of_by one s)
     unfolding book_of_by
@@ -83,7 +87,7 @@ module _ (s : List ℕ) (below : Below 256 s) where
         let n = record_count_by one s in
         record {
           sixteen = each_count (setting_at s) 0 16;
-          few = omega (arith, each_count (record_at_by one s) 0 n, (form_facts s form).few);
+          few = omega (arith, each_count (record_at_by one s) 0 n, (form_facts one s form).few);
           settings = each_from_lem SettingFits (setting_at s) setting_read 0 16;
           records = each_from_lem (RecordFits two) (record_at_by one s) record_read 0 n;
         }
@@ -102,11 +106,11 @@ module _ (s : List ℕ) (below : Below 256 s) where
     old_judged =
         same_tests (is_book (wider s)) (is_book_by one s)
         (λ undamaged.
-        let frame : Frame one s = formed_frame s (form_facts s form) (zeros_old s below (form_facts s form) (book_frame (wider s) undamaged)) in
-        let new : is_book (carried s) ≡ true = sym (ap is_book (wider_is s below (form_facts s form) frame)) ∙ undamaged in
+        let frame : Frame one s = formed_frame one s (form_facts one s form) (zeros_old s below (form_facts one s form) (book_frame (wider s) undamaged)) in
+        let new : is_book (carried s) ≡ true = sym (ap is_book (wider_is s below (form_facts one s form) frame)) ∙ undamaged in
         old_good frame (sym (ap is_good old_back) ∙ (undamaged_says (carried s) new).0))
         (λ undamaged.
-        ap is_book (wider_is s below (form_facts s form) (old_frame s undamaged))
+        ap is_book (wider_is s below (form_facts one s form) (old_frame s undamaged))
         ∙ (good_reads_back (book_of_by one s) (says_by one s undamaged).0).0)
 
 pub carries_over : CarriesOver
@@ -115,24 +119,24 @@ carries_over s undamaged =
     (new, (same, ap (λ (b : Book). no_lasts b.records) same ∙ old_lasts s))
 
 -- the answer, and the second buffer afterwards
-abbrev pub CarriedOver : List ℕ → List ℕ → ℕ → List ℕ → Type 0
-CarriedOver s lent n after =
-    (n ≡ written_number (written_of (carried_over s (length lent)))) × (after ≡ lent_after (carried_over s (length lent)) lent)
+abbrev pub CarriedOver : List ℕ → List ℕ → Result ⊤ Refusal → List ℕ → Type 0
+CarriedOver s lent answer after =
+    (answer ≡ done_or (refusal_number (written_of (carried_over s (length lent))))) × (after ≡ lent_after (carried_over s (length lent)) lent)
 
 module _ (s lent : List ℕ) where
-  pub is_damaged : is_book_by one s ≡ false → CarriedOver s lent 101 lent
+  pub is_damaged : is_book_by one s ≡ false → CarriedOver s lent (refused 101) lent
   unfolding carried_over
   is_damaged damaged = (rw damaged, rw damaged)
 
-  pub no_form : old_form s ≡ false → CarriedOver s lent 101 lent
-  no_form wrong = is_damaged (either (is_book_by one s) (λ undamaged. absurd (never_both (old_form s) wrong (old_form_lem s undamaged))) (λ damaged. damaged))
+  pub no_form : form_test one s ≡ false → CarriedOver s lent (refused 101) lent
+  no_form wrong = is_damaged (either (is_book_by one s) (λ undamaged. absurd (never_both (form_test one s) wrong (old_form_lem s undamaged))) (λ damaged. damaged))
 
   module _ (undamaged : is_book_by one s ≡ true) where
-    pub wrong_size : (length lent ≡ book_size → ⊥) → CarriedOver s lent 108 lent
+    pub wrong_size : (length lent ≡ book_size → ⊥) → CarriedOver s lent (refused 108) lent
     unfolding carried_over
     wrong_size other = (rw (undamaged, ne_eqb (length lent) book_size other), rw (undamaged, ne_eqb (length lent) book_size other))
 
-    pub is_carried : length lent ≡ book_size → (after : List ℕ) → after ≡ placed 0 (carried s) lent → CarriedOver s lent 0 after
+    pub is_carried : length lent ≡ book_size → (after : List ℕ) → after ≡ placed 0 (carried s) lent → CarriedOver s lent (Ok tt) after
     unfolding carried_over
     is_carried size after written =
         let whole : length (carried s) ≡ book_size = (undamaged_says (carried s) (carries_over s undamaged).0).1.1 in (

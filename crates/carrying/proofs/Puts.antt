@@ -15,14 +15,14 @@ use Rattle.layout.proofs.Each.{each_count, bytes-size}
 use Rattle.layout.proofs.AllPut.{AllPut, put_none, put_next, put_all}
 use Rattle.layout.proofs.Sizes.{drop-zeros}
 use Rattle.carrying.specs.OldForm.{old_record, wider_bytes, wider_records, wider}
-use Rattle.carrying.proofs.OldForms.{Formed}
+use Rattle.judging.proofs.Forms.{Formed}
 use Rattle.carrying.proofs.Wider.{wider_size, wider_record, settings_size}
 
 -- the records before i are put
 pub record RecordsPut (s s₀ new : List ℕ) (i : ℕ) : Type 0 where
   pub put : AllPut record_size wider_bytes record_place (old_record s) (record_count_by one s) s₀ new i
 
-module _ (s : List ℕ) (below : Below 256 s) (formed : Formed s) where
+module _ (s : List ℕ) (below : Below 256 s) (formed : Formed one s) where
   abbrev n : ℕ
   n = record_count_by one s
 

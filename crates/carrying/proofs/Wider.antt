@@ -44,7 +44,7 @@ use Rattle.layout.proofs.Written.{record_written}
 use Rattle.layout.proofs.Frame.{Frame, all_settings}
 use Rattle.carrying.specs.Carrying.{carried}
 use Rattle.carrying.specs.OldForm.{old_record, wider_bytes, wider_records, wider}
-use Rattle.carrying.proofs.OldForms.{Formed}
+use Rattle.judging.proofs.Forms.{Formed}
 
 -- the number of no bytes
 none_at : (s : List ℕ) (at : ℕ) → number_at 0 s at ≡ 0
@@ -83,7 +83,7 @@ record_back : (x i : ℕ) (front back : List ℕ) → length front ≡ record_pl
 record_back x i front back start fits =
     number_back (record_size_by one) x (record_place i) front (zeros 4 ++ back) (unfold wider_bytes in simp append_assoc) start fits
 
-module _ (s : List ℕ) (below : Below 256 s) (formed : Formed s) where
+module _ (s : List ℕ) (below : Below 256 s) (formed : Formed one s) where
   abbrev n : ℕ
   n = record_count_by one s
 

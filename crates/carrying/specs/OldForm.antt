@@ -1,18 +1,10 @@
--- The form of a version 1 book, and its bytes with room for last expiries: for contracts inside the crate alone. What these say is judged as a
+-- The bytes of a version 1 book in their old form, and with room for last expiries: for contracts inside the crate alone. What these say is judged as a
 -- version 2 book.
-use Rattle.std.specs.Prelude.{Bool, ◌&&◌, List, [], ◌∷◌, ◌++◌, ℕ, ◌-◌, leb, eqb, length, get_or, drop}
-use Rattle.octets.specs.Every.{all_of}
+use Rattle.std.specs.Prelude.{List, [], ◌∷◌, ◌++◌, ℕ, ◌-◌}
 use Rattle.octets.specs.Numbers.{bytes_of}
 use Rattle.octets.specs.Places.{number_at}
 use Rattle.text.specs.Texts.{part}
-use Rattle.layout.specs.Layout.{one, record_size_by, used_length_by, book_size_by, record_place_by, record_count_by, settings_place, book_size, used_length, zeros, all_bytes, each_from}
-use Rattle.judging.specs.Judging.{is_zero}
-
--- the length, version 1, a used length for at most 512 records, and zeros past it
-unfoldable pub old_form : List ℕ → Bool
-old_form s =
-    eqb (length s) (book_size_by one) && eqb (get_or s 0 0) 1 && leb (record_count_by one s) 512
-    && eqb (number_at 4 s 1) (used_length_by one (record_count_by one s)) && all_of is_zero (drop (used_length_by one (record_count_by one s)) s)
+use Rattle.layout.specs.Layout.{one, record_size_by, record_place_by, record_count_by, settings_place, book_size, used_length, zeros, all_bytes, each_from}
 
 -- the bytes of record i, as one number
 abbrev pub old_record : List ℕ → ℕ → ℕ

@@ -17,9 +17,10 @@ use Rattle.tenants.proofs.OwnCells.{cells_not}
 use Rattle.layout.specs.Layout.{record_size, record_place, used_length, setting_place}
 use Rattle.judging.specs.Starts.{start_of}
 use Rattle.judging.specs.Judging.{part_from, parts_from}
-use Rattle.judging.specs.declared.Part.TheVariants.{Ends}
+use Rattle.std.specs.Prelude.{Some}
+use Rattle.std.proofs.lemmas.Option.{none-some, same_Some}
 use Rattle.judging.proofs.StartPlaces.{start_none, start_next}
-use Rattle.judging.proofs.PartsSteps.{wrong_ends, ends_same, ends_or_wrong, parts-wrong, parts-long, parts_more}
+use Rattle.judging.proofs.PartsSteps.{ends_or_wrong, parts-wrong, parts-long, parts_more}
 use Rattle.judging.proofs.OnePart.{starts_lower, right_parts, first_above, from, from_end, held_from, PartSays, part_says, part-goes}
 
 no_cells : (u : ℕ) → length (cells_of u []) ≡ 0
@@ -98,9 +99,9 @@ module _ (s : List ℕ) (below : Below 256 s) (n : ℕ) (within : used_length n 
             omega (arith, says.others u apart, then.kept u (omega arith) less));
       }
 
-  pub parts_say : (m t i : ℕ) → t + m ≡ 16 → i ≤ n → parts_from s used t (record_place i) m ≡ Ends used → PartsSay t i
+  pub parts_say : (m t i : ℕ) → t + m ≡ 16 → i ≤ n → parts_from s used t (record_place i) m ≡ Some used → PartsSay t i
   parts_say zero t i sixteen most ends =
-      let place : record_place i ≡ used = ends_same (unfold parts_from in ends) in
+      let place : record_place i ≡ used = same_Some _ _ (unfold parts_from in ends) in
       say_nothing t i (omega arith)
   parts_say (suc m) t i sixteen most ends =
       let low : t ≤ 15 = omega arith in
@@ -108,13 +109,13 @@ module _ (s : List ℕ) (below : Below 256 s) (n : ℕ) (within : used_length n 
       (λ end is.
       let said = part_says s below n within t low (n - i) 0 i end (omega arith) (omega arith) is in
       let j = said.j in
-      let at = part_here t i most ∙ is ∙ ap Ends said.place in
+      let at = part_here t i most ∙ is ∙ ap Some said.place in
       either (leb (record_place j - record_place i) (record_size * quota t))
       (λ few. let bound : record_place j - record_place i ≤ record_size * quota t = leb-true _ _ few in
       say_more t i j low said.says (omega (arith, said.says.after))
       (parts_say m (suc t) j (omega arith) said.says.most (sym (parts_more s used t m (record_place i) (record_place j) at bound) ∙ ends)))
-      (λ many. absurd (wrong_ends (sym (parts-long s used t m (record_place i) (record_place j) at (leb-false _ _ many)) ∙ ends))))
-      (λ wrong. absurd (wrong_ends (sym (parts-wrong s used t m (record_place i) (part_here t i most ∙ wrong)) ∙ ends)))
+      (λ many. absurd (none-some _ (sym (parts-long s used t m (record_place i) (record_place j) at (leb-false _ _ many)) ∙ ends))))
+      (λ wrong. absurd (none-some _ (sym (parts-wrong s used t m (record_place i) (part_here t i most ∙ wrong)) ∙ ends)))
 
   -- records that are right: each tenant's part ends where the next begins
   module _ (right : are_records (rest 0) ≡ true) (zeros : (k : ℕ) → k < n → number_at 3 s (record_place k + 21) ≡ 0)
@@ -139,7 +140,7 @@ module _ (s : List ℕ) (below : Below 256 s) (n : ℕ) (within : used_length n 
     -- and that of the next where it ends
     record Next (t i : ℕ) : Type 0 where
       j : ℕ
-      is : part_from s t 0 (record_place i) (n - i) ≡ Ends (record_place j)
+      is : part_from s t 0 (record_place i) (n - i) ≡ Some (record_place j)
       size : j ≡ i + held t 0
       then : Begins (suc t) j
 
@@ -165,7 +166,7 @@ module _ (s : List ℕ) (below : Below 256 s) (n : ℕ) (within : used_length n 
 
     record Parts (t m i : ℕ) : Type 0 where
       j : ℕ
-      is : parts_from s used t (record_place i) m ≡ Ends (record_place j)
+      is : parts_from s used t (record_place i) m ≡ Some (record_place j)
       then : Begins (t + m) j
 
     parts-go : (m t i : ℕ) → t + m ≤ 16 → Begins t i → Parts t m i
@@ -184,8 +185,8 @@ module _ (s : List ℕ) (below : Below 256 s) (n : ℕ) (within : used_length n 
         }
 
     -- the parts of the tenants below m end where tenant m's records start
-    pub parts-start : (m : ℕ) → m ≤ 16 → parts_from s used 0 (record_place 0) m ≡ Ends (record_place (start_of m (rest 0)))
+    pub parts-start : (m : ℕ) → m ≤ 16 → parts_from s used 0 (record_place 0) m ≡ Some (record_place (start_of m (rest 0)))
     parts-start m most =
         let parts = parts-go m 0 0 (omega arith) begins_first in
         let all : 0 + m ≡ m = omega arith in
-        parts.is ∙ ap (λ (i : ℕ). Ends (record_place i)) (parts.then.place ∙ ap (λ (k : ℕ). start_of k (rest 0)) all)
+        parts.is ∙ ap (λ (i : ℕ). Some (record_place i)) (parts.then.place ∙ ap (λ (k : ℕ). start_of k (rest 0)) all)

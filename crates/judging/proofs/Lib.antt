@@ -1,5 +1,6 @@
 pub mod Parts
 pub mod Zeros
+pub mod Forms
 pub mod SettingTests
 pub mod PrincipalTests
 pub mod RecordTests

@@ -22,10 +22,10 @@ use Rattle.tenants.specs.Together.{cell_in, BookRecord, names, full_name, tenant
 use Rattle.tenants.proofs.OwnCells.{cells_mine, cells_not}
 use Rattle.layout.specs.Layout.{record_size, record_place, used_length, record_at, each_from}
 use Rattle.judging.specs.Judging.{record_test, part_from}
-use Rattle.judging.specs.declared.Part.TheVariants.{Ends}
+use Rattle.std.specs.Prelude.{Some}
+use Rattle.std.proofs.lemmas.Option.{none-some, same_Some}
 use Rattle.judging.proofs.RecordTests.{full_name_lem, tenant_is, record_tested}
 use Rattle.judging.proofs.PartSteps.{part_other, part_wrong, part_more}
-use Rattle.judging.proofs.PartsSteps.{wrong_ends, ends_same}
 
 pub starts_lower : (k m : ℕ) (records : List BookRecord) → k ≤ m → starts_above m records ≡ true → starts_above k records ≡ true
 unfolding starts_above
@@ -171,10 +171,10 @@ module _ (s : List ℕ) (below : Below 256 s) (n : ℕ) (within : used_length n 
       pub place : end ≡ record_place j
       pub says : PartSays name i j
 
-    said_here : (name i end : ℕ) → i ≤ n → name < names → Ends (record_place i) ≡ Ends end → Said name i end
-    said_here name i end most small e = record { j = i; place = sym (ends_same e); says = says_here name i most small }
+    said_here : (name i end : ℕ) → i ≤ n → name < names → Some (record_place i) ≡ Some end → Said name i end
+    said_here name i end most small e = record { j = i; place = sym (same_Some _ _ e); says = says_here name i most small }
 
-    pub part_says : (left name i end : ℕ) → i + left ≡ n → name < names → part_from s t name (record_place i) left ≡ Ends end → Said name i end
+    pub part_says : (left name i end : ℕ) → i + left ≡ n → name < names → part_from s t name (record_place i) left ≡ Some end → Said name i end
     unfolding part_from
     part_says zero name i end count small ends = said_here name i end (omega arith) small ends
     part_says (suc left) name i end count small ends =
@@ -187,13 +187,13 @@ module _ (s : List ℕ) (below : Below 256 s) (n : ℕ) (within : used_length n 
         let said = part_says left (number_at 8 s (record_place i + 1)) (suc i) end (omega arith) (next_small name i (omega arith) its)
         (sym (part_more s t name (record_place i) left its passed ∙ ap (λ (at : ℕ). part_from s t (number_at 8 s (record_place i + 1)) at left) place) ∙ ends) in
         record { j = said.j; place = said.place; says = says-next name i (omega arith) its said.j passed said.says })
-        (λ failed. absurd (wrong_ends (sym (part_wrong s t name (record_place i) left its failed) ∙ ends))))
+        (λ failed. absurd (none-some _ (sym (part_wrong s t name (record_place i) left its failed) ∙ ends))))
         (λ other. said_here name i end (omega arith) small (sym (part_other s t name (record_place i) left (eqb-false _ _ other)) ∙ ends))
 
     -- and where the records are right it ends, before those of the tenants above
     pub record Goes (name i left : ℕ) : Type 0 where
       pub j : ℕ
-      pub is : part_from s t name (record_place i) left ≡ Ends (record_place j)
+      pub is : part_from s t name (record_place i) left ≡ Some (record_place j)
       pub says : PartSays name i j
       pub right : are_records (from j) ≡ true
       pub above : starts_above (full_name (suc t) 0) (from j) ≡ true

@@ -14,17 +14,16 @@ use Rattle.octets.proofs.Every.{either}
 use Rattle.text.specs.Texts.{part}
 use Rattle.layout.specs.Layout.{record_size}
 use Rattle.judging.specs.Judging.{cell_test, spare_of, record_test, part_from}
-use Rattle.judging.specs.declared.Part.{Part}
-use Rattle.judging.specs.declared.Part.TheVariants.{Ends, Wrong}
+use Rattle.std.specs.Prelude.{Option, None, Some}
 use Rattle.judging.proofs.RecordTests.{or_spare}
 
 -- how a part goes on: at a record of another tenant, at a wrong one, at a right one
 module _ (s : List ℕ) (t name at left : ℕ) where
-  pub part_other : (get_or s at 0 ≡ t → ⊥) → part_from s t name at (suc left) ≡ Ends at
+  pub part_other : (get_or s at 0 ≡ t → ⊥) → part_from s t name at (suc left) ≡ Some at
   unfolding part_from
   part_other other = rw (ne_eqb (get_or s at 0) t other)
 
-  pub part_wrong : get_or s at 0 ≡ t → record_test (part record_size s at) name ≡ false → part_from s t name at (suc left) ≡ Wrong
+  pub part_wrong : get_or s at 0 ≡ t → record_test (part record_size s at) name ≡ false → part_from s t name at (suc left) ≡ None
   unfolding part_from
   part_wrong its wrong = rw (eq-eqb (get_or s at 0) t its, wrong)
 
@@ -35,20 +34,20 @@ module _ (s : List ℕ) (t name at left : ℕ) where
 
 module _ (s : List ℕ) (t first used : ℕ) where
   -- the whole part
-  abbrev all : Part
+  abbrev all : Option ℕ
   all = part_from s t 0 first ((used - first) / record_size)
 
   -- right so far, if the spare bytes are, the last record had this name, and the others are left at a place
   pub record PartLeft (name spare at : ℕ) : Type 0 where
     pub most : at ≤ used
     pub fits : (used - at) % record_size ≡ 0
-    pub same : all ≡ cond (leb spare 255) (part_from s t name at ((used - at) / record_size)) Wrong
+    pub same : all ≡ cond (leb spare 255) (part_from s t name at ((used - at) / record_size)) None
 
   pub left_all : first ≤ used → (used - first) % record_size ≡ 0 → PartLeft 0 0 first
   left_all most fits = record { most = most; fits = fits; same = refl }
 
   module _ {name spare at : ℕ} (so_far : PartLeft name spare at) where
-    pub left_none : used ≤ at → cond (leb spare 255) (Ends at) Wrong ≡ all
+    pub left_none : used ≤ at → cond (leb spare 255) (Some at) None ≡ all
     unfolding part_from
     left_none done =
         let none : (used - at) / record_size ≡ 0 = omega arith in
@@ -61,23 +60,23 @@ module _ (s : List ℕ) (t first used : ℕ) where
       abbrev others : ℕ
       others = (used - (at + record_size)) / record_size
 
-      now : all ≡ cond (leb spare 255) (part_from s t name at (suc others)) Wrong
+      now : all ≡ cond (leb spare 255) (part_from s t name at (suc others)) None
       now = let left : (used - at) / record_size ≡ suc others = omega (arith, so_far.fits) in rw left at so_far.same
 
-      pub left_other : (get_or s at 0 ≡ t → ⊥) → cond (leb spare 255) (Ends at) Wrong ≡ all
-      left_other other = sym (now ∙ ap (λ (p : Part). cond (leb spare 255) p Wrong) (part_other s t name at others other))
+      pub left_other : (get_or s at 0 ≡ t → ⊥) → cond (leb spare 255) (Some at) None ≡ all
+      left_other other = sym (now ∙ ap (λ (p : Option ℕ). cond (leb spare 255) p None) (part_other s t name at others other))
 
       module _ (its : get_or s at 0 ≡ t) where
-        pub left-wrong : cell_test (part record_size s at) name ≡ false → Wrong ≡ all
+        pub left-wrong : cell_test (part record_size s at) name ≡ false → None ≡ all
         left-wrong wrong =
             sym (now
-            ∙ ap (λ (p : Part). cond (leb spare 255) p Wrong) (part_wrong s t name at others its (rw wrong refl))
+            ∙ ap (λ (p : Option ℕ). cond (leb spare 255) p None) (part_wrong s t name at others its (rw wrong refl))
             ∙ either (leb spare 255) (λ e. rw e refl) (λ e. rw e refl))
 
         module _ (right : cell_test (part record_size s at) name ≡ true) (x : ℕ) (is : x ≡ spare_of (part record_size s at)) where
           -- both halves of the record's test, with what was taken together
-          together : cond (leb spare 255) (part_from s t name at (suc others)) Wrong
-              ≡ cond (leb (bit_or spare x) 255) (part_from s t (number_at 8 s (at + 1)) (at + record_size) others) Wrong
+          together : cond (leb spare 255) (part_from s t name at (suc others)) None
+              ≡ cond (leb (bit_or spare x) 255) (part_from s t (number_at 8 s (at + 1)) (at + record_size) others) None
           together =
               rw (or_spare spare x)
               (either (leb spare 255)

@@ -1,11 +1,11 @@
 -- The test of one record: what its bytes say, and how its two halves are made.
 -- Assumes nothing.
-use mathlib.Core.Path.{◌≡◌, refl, sym, ap, ◌∙◌}
+use mathlib.Core.Path.{◌≡◌, refl, ap, ◌∙◌}
 use mathlib.Core.Bool.{Bool, true, false, ◌&&◌}
 use mathlib.Core.List.{List}
 use Prim.Native.Nat.{ℕ, ◌+◌, ◌*◌, ◌^◌, ◌≤◌, ◌<◌}
 use native.Mathlib.Omega.{arith}
-use borrow.Author.Tests.{le-leb, lt-leb, leb-true, ltb-true, lt-ltb, le-ltb, eqb-true, eq-eqb}
+use borrow.Author.Tests.{le-leb, leb-true, ltb-true, lt-ltb, eqb-true, eq-eqb}
 use lib.Bits.{bit_or, or_lt, or_add_and, and_le_l, and_le_r}
 use lib.Dec.{leb, ltb, eqb}
 use lib.ListN.{length, get_or}
@@ -21,28 +21,6 @@ use Rattle.judging.specs.Judging.{cell_test, spare_of, last_known, record_test}
 use Rattle.text.specs.Texts.{part}
 use Rattle.layout.proofs.Told.{byte_number}
 use Rattle.judging.proofs.Parts.{number_in_part, byte_in_part}
-
-module _ (p : List ℕ) (name cell : ℕ) (is : cell ≡ number_at 8 p 1) (edition : ℕ) (then : edition ≡ number_at 2 p 9) (last : ℕ)
-    (at_end : last ≡ number_at 4 p 24) where
-  opened : cell_test p name ≡ (ltb name cell && is_cell_name cell && (leb 1 edition && leb edition 999) && is_last last)
-  unfolding cell_test
-  opened = rw (is, then, at_end)
-
-  pub not_above : cell ≤ name → cell_test p name ≡ false
-  not_above low = opened ∙ rw (le-ltb name cell low)
-
-  module _ (above : name < cell) (good : Bool) (is-good : good ≡ is_cell_name cell) where
-    pub no_name : good ≡ false → cell_test p name ≡ false
-    no_name bad = opened ∙ rw (lt-ltb name cell above, sym is-good ∙ bad)
-
-    pub edition-below : good ≡ true → edition < 1 → cell_test p name ≡ false
-    edition-below named small = opened ∙ rw (lt-ltb name cell above, sym is-good ∙ named, lt-leb 1 edition small)
-
-    pub edition-above : good ≡ true → 1 ≤ edition → 999 < edition → cell_test p name ≡ false
-    edition-above named one big = opened ∙ rw (lt-ltb name cell above, sym is-good ∙ named, le-leb 1 edition one, lt-leb edition 999 big)
-
-    pub by_last : good ≡ true → 1 ≤ edition → edition ≤ 999 → cell_test p name ≡ is_last last
-    by_last named one most = opened ∙ rw (lt-ltb name cell above, sym is-good ∙ named, le-leb 1 edition one, le-leb edition 999 most)
 
 -- what is known to be a last expiry: 0, the one of a record that is right, and then the one that is known after it
 pub none_known : is_last 0 ≡ true

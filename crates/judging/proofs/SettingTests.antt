@@ -6,12 +6,10 @@ use mathlib.Core.List.{List}
 use Prim.Native.Nat.{ℕ, zero, suc, ◌+◌, ◌≤◌, ◌<◌}
 use native.Mathlib.Omega.{arith}
 use lib.Dec.{leb}
-use lib.ListN.{length, get_or}
+use lib.ListN.{length}
 use Rattle.octets.specs.Numbers.{Below}
 use Rattle.octets.specs.Places.{number_at}
 use Rattle.octets.proofs.Places.{number_at_below}
-use Rattle.dates.specs.Notice.{is_days}
-use Rattle.forms.specs.Identifiers.{is_server_id}
 use Rattle.tenants.specs.declared.Setting.{Setting}
 use Rattle.tenants.specs.Together.{is_setting, are_settings}
 use Rattle.layout.specs.Layout.{setting_size, setting_place, records_place, setting_at, each_from, all_from}
@@ -20,16 +18,6 @@ use Rattle.layout.proofs.Told.{byte_number}
 use Rattle.judging.proofs.Parts.{number_in_part, byte_in_part}
 use Rattle.layout.proofs.AllFrom.{Passed, passed_none, passed-next, passed_all, one_fails, same_all}
 use Rattle.layout.proofs.QuotaSums.{Summed, summed_none, summed-next, summed-all}
-
-module _ (p : List ℕ) (days : Bool) (is : days ≡ is_days (get_or p 2 0)) where
-  pub no_days : days ≡ false → setting_test p ≡ false
-  unfolding setting_test
-  no_days wrong = rw (sym is ∙ wrong)
-
-  module _ (fit : days ≡ true) (server : Bool) (told : server ≡ is_server_id (number_at 2 p 3)) where
-    pub by_server : server ≡ setting_test p
-    unfolding setting_test
-    by_server = rw (sym is ∙ fit) told
 
 -- all of a row are settings where each is one
 settings_each : (at : ℕ → Setting) (t n : ℕ) → are_settings (each_from at t n) ≡ all_from (λ (u : ℕ). is_setting (at u)) t n

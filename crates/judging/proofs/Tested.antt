@@ -1,16 +1,14 @@
 -- The tests of the bytes, all together, hold exactly of an undamaged book; and then the parts begin where each tenant's records start.
 -- Assumes nothing.
 use mathlib.Core.Path.{◌≡◌, sym, ap, ◌∙◌}
-use mathlib.Core.Bool.{Bool, true, false, ◌&&◌}
+use mathlib.Core.Bool.{true, ◌&&◌}
 use mathlib.Core.List.{List}
 use Prim.Native.Nat.{ℕ, ◌-◌, ◌≤◌}
 use native.Mathlib.Omega.{arith}
-use borrow.Author.Tests.{le-leb, leb-true, eq-eqb, eqb-true}
+use borrow.Author.Tests.{le-leb, eq-eqb}
 use lib.Dec.{leb, eqb}
-use lib.ListN.{length, get_or, drop}
+use lib.ListN.{length}
 use Rattle.octets.specs.Numbers.{Below}
-use Rattle.octets.specs.Every.{all_of}
-use Rattle.octets.specs.Places.{number_at}
 use Rattle.octets.proofs.Every.{and_first, and_second}
 use Rattle.text.specs.Texts.{same_text}
 use Rattle.text.proofs.SameTexts.{same_refl}
@@ -18,79 +16,38 @@ use Rattle.tenants.specs.declared.Setting.{Setting}
 use Rattle.tenants.specs.Together.{BookRecord, are_settings, are_principals, quota_sum, are_records, within_quotas, is_good}
 use Rattle.layout.specs.Layout.{two, book_of_by, is_book_by, records_place, book_size, used_length, record_count, record_place, setting_at, record_at, each_from, book_of, is_book, all_from}
 use Rattle.judging.specs.Starts.{start_of, first_in}
-use Rattle.judging.specs.Judging.{is_zero, settings_test, principals_test, frame_test, parts_from}
-use Rattle.judging.specs.declared.Part.TheVariants.{Ends}
-use Rattle.layout.proofs.Decides.{part_fails}
-use Rattle.layout.proofs.Decides as decides
+use Rattle.judging.specs.Judging.{settings_test, principals_test, form_test, frame_test, parts_from}
+use Rattle.std.specs.Prelude.{Some}
 use Rattle.layout.proofs.Promises.{undamaged_says}
 use Rattle.layout.proofs.Each.{each_count}
 use Rattle.layout.proofs.Frame.{Frame, frame_written, book_frame}
-use Rattle.judging.proofs.Zeros.{zeros-each, each-zero}
+use Rattle.judging.proofs.Forms.{Formed, form_facts, formed_test, formed_frame, frame_formed}
 use Rattle.judging.proofs.SettingTests.{test_at, settings_tested}
 use Rattle.judging.proofs.PrincipalTests.{principals_tested}
 use Rattle.judging.proofs.QuotaTests.{within_kept, kept_within}
 use Rattle.judging.proofs.OnePart.{from}
 use Rattle.judging.proofs.AllParts.{PartsSay, parts_say, parts-start}
 
--- what the tests of all but the records find, in their order
+-- what the tests of all but the records find
 pub record Framed (s : List ℕ) : Type 0 where
-  pub size : length s ≡ book_size
-  pub version : get_or s 0 0 ≡ 2
-  pub few : record_count s ≤ 512
-  pub used : number_at 4 s 1 ≡ used_length (record_count s)
+  pub form : Formed two s
   pub settings : settings_test s ≡ true
   pub principals : principals_test s ≡ true
-  pub rest : all_of is_zero (drop (used_length (record_count s)) s) ≡ true
 
 module _ (s : List ℕ) where
   pub frame_facts : frame_test s ≡ true → Framed s
   unfolding frame_test
   frame_facts all =
-      let a = eqb (length s) book_size in
-      let b = eqb (get_or s 0 0) 2 in
-      let c = leb (record_count s) 512 in
-      let d = eqb (number_at 4 s 1) (used_length (record_count s)) in
-      let e = settings_test s in
-      let p = principals_test s in
-      let f = all_of is_zero (drop (used_length (record_count s)) s) in
-      let six = and_first (a && b && c && d && e && p) f all in
-      let five = and_first (a && b && c && d && e) p six in
-      let four = and_first (a && b && c && d) e five in
-      let three = and_first (a && b && c) d four in
-      let both = and_first (a && b) c three in
+      let both = and_first (form_test two s && settings_test s) (principals_test s) all in
       record {
-        size = eqb-true (length s) book_size (and_first a b both);
-        version = eqb-true (get_or s 0 0) 2 (and_second a b both);
-        few = leb-true (record_count s) 512 (and_second (a && b) c three);
-        used = eqb-true (number_at 4 s 1) (used_length (record_count s)) (and_second (a && b && c) d four);
-        settings = and_second (a && b && c && d) e five;
-        principals = and_second (a && b && c && d && e) p six;
-        rest = and_second (a && b && c && d && e && p) f all;
+        form = form_facts two s (and_first (form_test two s) (settings_test s) both);
+        settings = and_second (form_test two s) (settings_test s) both;
+        principals = and_second (form_test two s && settings_test s) (principals_test s) all;
       }
 
   pub framed_test : Framed s → frame_test s ≡ true
   unfolding frame_test
-  framed_test framed =
-      rw (
-        eq-eqb (length s) book_size framed.size,
-        eq-eqb (get_or s 0 0) 2 framed.version,
-        le-leb (record_count s) 512 framed.few,
-        eq-eqb (number_at 4 s 1) (used_length (record_count s)) framed.used,
-        framed.settings,
-        framed.principals,
-      )
-      framed.rest
-
-  -- where a test that must be true is false, or a fact that must be so is not, the frame is wrong
-  pub test_fails : (test : Bool) → (Framed s → test ≡ true) → test ≡ false → frame_test s ≡ false
-  test_fails = part_fails (frame_test s) frame_facts framed_test
-
-  pub fact_fails : (Framed s → ⊥) → frame_test s ≡ false
-  fact_fails = decides.fact_fails (frame_test s) frame_facts framed_test
-
-  -- the last test decides
-  pub last_decides : (last : Bool) → (Framed s → last ≡ true) → (last ≡ true → Framed s) → last ≡ frame_test s
-  last_decides = decides.last_decides (frame_test s) frame_facts framed_test
+  framed_test framed = rw (formed_test two s framed.form, framed.settings) framed.principals
 
 module _ (s : List ℕ) (below : Below 256 s) where
   abbrev n : ℕ
@@ -145,49 +102,38 @@ module _ (s : List ℕ) (below : Below 256 s) where
     pub book-framed : Framed s
     unfolding settings_test
     book-framed = record {
-      size = frame.size;
-      version = frame.version;
-      few = frame.few;
-      used = frame.used;
+      form = frame_formed two s frame;
       settings = rw (sym (settings_tested s (omega (arith, frame.size))) ∙ said.settings-right, said.sum);
       principals = sym (principals_tested s) ∙ said.principals-right;
-      rest = each-zero s (used_length n) frame.rest;
     }
 
     pub book-right : are_records (book_of s).records ≡ true
     unfolding book_of_by
     book-right = said.records-right
 
-    pub book-parts : (t : ℕ) → t ≤ 16 → parts_from s (used_length n) 0 records_place t ≡ Ends (record_place (first_in s t))
+    pub book-parts : (t : ℕ) → t ≤ 16 → parts_from s (used_length n) 0 records_place t ≡ Some (record_place (first_in s t))
     unfolding book_of_by
     book-parts t low =
         let same = whole within in
         parts-start s below n within (ap are_records same ∙ said.records-right) frame.records
         (λ u h. rw same (within_kept s records 0 16 said.quotas u (omega arith) (omega arith))) t low
-        ∙ ap (λ (l : List BookRecord). Ends (record_place (start_of t l))) same
+        ∙ ap (λ (l : List BookRecord). Some (record_place (start_of t l))) same
 
   -- and where the frame is right and all parts end with the records, the book is undamaged
-  module _ (framed : Framed s) (parts : parts_from s (used_length n) 0 records_place 16 ≡ Ends (used_length n)) where
+  module _ (framed : Framed s) (parts : parts_from s (used_length n) 0 records_place 16 ≡ Some (used_length n)) where
     inside : used_length n ≤ length s
-    inside = omega (arith, framed.size, framed.few)
+    inside = omega (arith, framed.form.size, framed.form.few)
 
     says : PartsSay s below n inside 0 0
     says = parts_say s below n inside 16 0 0 (omega arith) (omega arith) parts
 
     tested-settings : are_settings settings ≡ true
     tested-settings =
-        settings_tested s (omega (arith, framed.size))
+        settings_tested s (omega (arith, framed.form.size))
         ∙ and_first (all_from (test_at s) 0 16) (leb (quota_sum settings) 512) (unfold settings_test in framed.settings)
 
     so-framed : Frame two s
-    so-framed = record {
-      size = framed.size;
-      version = framed.version;
-      used = framed.used;
-      few = framed.few;
-      records = λ i high. says.zeros i (omega arith) high;
-      rest = zeros-each s (used_length n) framed.rest;
-    }
+    so-framed = formed_frame two s framed.form (λ i high. says.zeros i (omega arith) high)
 
     good : is_good (book_of s) ≡ true
     unfolding is_good book_of_by
@@ -198,11 +144,11 @@ module _ (s : List ℕ) (below : Below 256 s) where
           tested-settings,
           principals_tested s ∙ framed.principals,
           and_second (all_from (test_at s) 0 16) (leb (quota_sum settings) 512) (unfold settings_test in framed.settings),
-          le-leb (length records) 512 (omega (arith, each_count (record_at s) 0 n, framed.few)),
+          le-leb (length records) 512 (omega (arith, each_count (record_at s) 0 n, framed.form.few)),
           sym (ap are_records same) ∙ says.right,
         )
         (kept_within s records 0 16 (λ u low high. rw same at (says.kept u low (omega arith))))
 
     pub tested-book : is_book s ≡ true
     unfolding is_book_by
-    tested-book = rw (eq-eqb (length s) book_size framed.size, ap (same_text s) (frame_written two s below so-framed) ∙ same_refl s) good
+    tested-book = rw (eq-eqb (length s) book_size framed.form.size, ap (same_text s) (frame_written two s below so-framed) ∙ same_refl s) good

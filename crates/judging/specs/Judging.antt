@@ -1,5 +1,6 @@
 -- The tests of an undamaged book as they are made, one after the other, on its bytes: for contracts inside the crate alone.
-use Rattle.std.specs.Prelude.{Bool, cond, ◌&&◌, List, ℕ, zero, suc, ◌+◌, ◌-◌, ◌*◌, ◌/◌, leb, ltb, eqb, length, get_or, drop}
+use Rattle.std.specs.Prelude.{Bool, cond, ◌&&◌, Option, None, Some, List, ℕ, zero, suc, ◌+◌, ◌-◌, ◌*◌, ◌/◌, leb, ltb, eqb, length, get_or, drop}
+use Rattle.std.specs.Option.{option_and_then}
 use Rattle.octets.specs.Every.{all_of}
 use Rattle.octets.specs.Places.{number_at}
 use Rattle.text.specs.Texts.{part}
@@ -7,9 +8,7 @@ use Rattle.dates.specs.Notice.{is_days}
 use Rattle.forms.specs.Identifiers.{is_cell_name, is_server_id}
 use Rattle.tenants.specs.Rules.{is_last}
 use Rattle.tenants.specs.Together.{is_principal, quota_sum}
-use Rattle.layout.specs.Layout.{setting_size, setting_place, record_size, book_size, used_length, setting_at, record_count, each_from, all_from, book_of}
-use Rattle.judging.specs.declared.Part.{Part}
-use Rattle.judging.specs.declared.Part.TheVariants.{Ends, Wrong}
+use Rattle.layout.specs.Layout.{Version, two, version_byte, used_length_by, book_size_by, record_count_by, setting_size, setting_place, record_size, setting_at, each_from, all_from, book_of}
 
 -- the bytes of tenant t's setting
 abbrev pub setting_part : List ℕ → ℕ → List ℕ
@@ -35,11 +34,15 @@ principal_test s t = is_principal (book_of s).settings t (setting_at s t)
 unfoldable pub principals_test : List ℕ → Bool
 principals_test s = all_from (principal_test s) 0 16
 
--- all but the records: the length, version 2, a used length for at most 512 records, the settings, the principals, zeros past the used length
+-- the form of a book of a version: its length, its version, a used length for at most 512 records, and zeros past the used length
+unfoldable pub form_test : Version → List ℕ → Bool
+form_test v s =
+    eqb (length s) (book_size_by v) && eqb (get_or s 0 0) (version_byte v) && leb (record_count_by v s) 512
+    && eqb (number_at 4 s 1) (used_length_by v (record_count_by v s)) && all_of is_zero (drop (used_length_by v (record_count_by v s)) s)
+
+-- all but the records: the form of version 2, the settings, the principals
 unfoldable pub frame_test : List ℕ → Bool
-frame_test s =
-    eqb (length s) book_size && eqb (get_or s 0 0) 2 && leb (record_count s) 512 && eqb (number_at 4 s 1) (used_length (record_count s))
-    && settings_test s && principals_test s && all_of is_zero (drop (used_length (record_count s)) s)
+frame_test s = form_test two s && settings_test s && principals_test s
 
 -- the bytes of one cell, after a record of this name: a higher name that is a cell name, an edition, and a last expiry
 unfoldable pub cell_test : List ℕ → ℕ → Bool
@@ -59,25 +62,21 @@ abbrev pub record_test : List ℕ → ℕ → Bool
 record_test p name = cell_test p name && leb (spare_of p) 255
 
 -- where tenant t's part of the records ends, of which so many records are left at a place, after one of this name: before the first that is
--- not t's, and wrong where one of t's is
-unfoldable pub part_from : List ℕ → ℕ → ℕ → ℕ → ℕ → Part
-part_from s t name at zero = Ends at
+-- not t's, and nowhere where one of t's is wrong
+unfoldable pub part_from : List ℕ → ℕ → ℕ → ℕ → ℕ → Option ℕ
+part_from s t name at zero = Some at
 part_from s t name at (suc left) =
     cond (eqb (get_or s at 0) t)
-    (cond (record_test (part record_size s at) name) (part_from s t (number_at 8 s (at + 1)) (at + record_size) left) Wrong)
-    (Ends at)
+    (cond (record_test (part record_size s at) name) (part_from s t (number_at 8 s (at + 1)) (at + record_size) left) None)
+    (Some at)
 
--- what comes after a part: where it ends the next begins
-abbrev pub onward : Part → (ℕ → Part) → Part
-onward (Ends at) next = next at
-onward Wrong next = Wrong
-
--- where the parts of m tenants from t on end, which begin at a place; each is held to its tenant's quota where it ends
-unfoldable pub parts_from : List ℕ → ℕ → ℕ → ℕ → ℕ → Part
-parts_from s used t at zero = Ends at
+-- where the parts of m tenants from t on end, which begin at a place: where one ends the next begins, and each is held to its tenant's quota where it ends
+unfoldable pub parts_from : List ℕ → ℕ → ℕ → ℕ → ℕ → Option ℕ
+parts_from s used t at zero = Some at
 parts_from s used t at (suc m) =
-    onward (part_from s t 0 at ((used - at) / record_size))
-    (λ (end : ℕ). cond (leb (end - at) (record_size * number_at 2 s (setting_place t))) (parts_from s used (suc t) end m) Wrong)
+    option_and_then
+    (λ (end : ℕ). cond (leb (end - at) (record_size * number_at 2 s (setting_place t))) (parts_from s used (suc t) end m) None)
+    (part_from s t 0 at ((used - at) / record_size))
 
 -- a tenant's number, or 16, where the tenants end
 unfoldable pub up_to16 : ℕ → ℕ

@@ -7,6 +7,8 @@ use Prim.Native.Nat.{ℕ, zero, suc, ◌+◌, ◌≤◌, ◌<◌}
 use native.Mathlib.Omega.{arith}
 use borrow.Author.Tests.{eqb-true, eqb-false}
 use lib.Dec.{eqb}
+use native.Mathlib.Numerals.{add-one}
+use Rattle.std.specs.List.{list_all, range_with_len}
 use Rattle.octets.proofs.Every.{and_first, and_second, either}
 use Rattle.tenants.specs.declared.Setting.{Setting}
 use Rattle.tenants.specs.Together.{is_principal, are_principals}
@@ -27,6 +29,12 @@ module _ (test : ℕ → Bool) where
   each_all i zero each = refl
   each_all i (suc n) each =
       rw (each i (omega arith) (omega arith), each_all (suc i) n (λ k low high. each k (omega arith) (omega arith)))
+
+  -- as a list of them is tested
+  pub all_listed : (i n : ℕ) → list_all test (range_with_len i n) ≡ all_from test i n
+  unfolding all_from
+  all_listed i zero = refl
+  all_listed i (suc n) = rw (add-one, all_listed (suc i) n)
 
   -- those before i pass
   abbrev pub Passed : ℕ → Type 0

@@ -38,22 +38,19 @@ fn counted(book: &[u8], size: usize) -> usize
     requires { 0 < size }
     ensures { result ≡ (number_at 4 book.now 1 - records_place) / size }
 {
-    let used = number32(book, 1) as usize;
-    if used < RECORDS_PLACE {
-        0
-    } else {
-        (used - RECORDS_PLACE) / size
-    }
+    (number32(book, 1) as usize).saturating_sub(RECORDS_PLACE) / size
 }
 
 // How many records there are.
+#[tactic(auto, unfolding(crate::specs::Layout::record_count_by))]
 pub fn count(book: &[u8]) -> usize
     ensures { result ≡ record_count book.now }
 {
     counted(book, RECORD_SIZE)
 }
 
-// How many there are in a version 1 book.
+// How many there are in a version 1 book. Two functions and not one over a size: it would have to be required not to be 0, and a public function requires nothing.
+#[tactic(auto, unfolding(crate::specs::Layout::record_count_by))]
 pub fn old_count(book: &[u8]) -> usize
     ensures { result ≡ record_count_by one book.now }
 {
@@ -61,6 +58,7 @@ pub fn old_count(book: &[u8]) -> usize
 }
 
 // The setting of a tenant.
+#[tactic(auto, using(crate::proofs::Told::byte_number), unfolding(crate::specs::Layout::setting_at))]
 pub fn setting_of(book: &[u8], t: u32) -> Setting
     ensures { result ≡ setting_at book.now t }
 {

@@ -3,51 +3,24 @@
 use mathlib.Core.Path.{◌≡◌, refl, sym, ap, ap₂, ◌∙◌}
 use mathlib.Core.Bool.{true, false}
 use mathlib.Core.List.{List, [], ◌∷◌, ◌++◌, append_assoc, append-nil}
-use Prim.Native.Nat.{ℕ, suc, ◌+◌, ◌-◌, ◌*◌, ◌/◌, ◌%◌, ◌≤◌, ◌<◌}
+use Prim.Native.Nat.{ℕ, ◌+◌, ◌-◌, ◌*◌, ◌/◌, ◌%◌, ◌≤◌, ◌<◌}
 use native.Mathlib.Nat.{div-one}
 use native.Mathlib.Omega.{arith}
 use borrow.Author.Tests.{eq-eqb, ne_eqb}
-use lib.ListN.{length, take, drop, set, length-append, length-set, length-replicate, replicate-append-replicate, drop_of_length-le}
-use lib.Seq.{take_all, take-suc-set}
+use lib.ListN.{length, drop, length-append, length-replicate, drop_of_length-le}
 use Rattle.octets.specs.Numbers.{digits}
 use Rattle.text.specs.Texts.{placed}
 use Rattle.text.proofs.PlacedTexts.{placed_start, placed-next}
-use Rattle.forms.specs.Output.{written_number, written_of, lent_after}
+use Rattle.std.specs.Prelude.{Result, Ok, ⊤}
+use Rattle.forms.specs.Output.{written_of, lent_after}
+use Rattle.forms.specs.Refusals.{refused, refusal_number, done_or}
+use Rattle.forms.specs.declared.refusals.Refusal.{Refusal}
 use Rattle.tenants.specs.declared.Setting.{Setting}
 use Rattle.layout.specs.Layout.{two, book_bytes_by, book_size, setting_size, records_place, setting_place, zeros, setting_bytes, all_bytes, book_bytes, each_from}
 use Rattle.layout.proofs.Each.{each_count}
 use Rattle.layout.proofs.AllPut.{AllPut, put_none, put_next, put_all}
 use Rattle.layout.proofs.Sizes.{drop-zeros, setting_size_lem, settings_size, book_size_lem}
 use Rattle.opening.specs.Opening.{first_setting, empty_book, are_given, opened}
-
--- s is s₀ with zeros before place i
-pub record Cleared (s₀ s : List ℕ) (i : ℕ) : Type 0 where
-  pub few : i ≤ length s₀
-  pub same : length s ≡ length s₀
-  pub clear : take i s ≡ zeros i
-
-module _ {s₀ : List ℕ} where
-  pub cleared_none : Cleared s₀ s₀ 0
-  cleared_none = record { few = omega arith; same = refl; clear = refl }
-
-  module _ {s : List ℕ} {i : ℕ} (so_far : Cleared s₀ s i) where
-    pub cleared_next : i < length s → Cleared s₀ (set s i 0) (i + 1)
-    cleared_next more =
-        let next : i + 1 ≡ suc i = omega arith in
-        record {
-          few = omega (arith, so_far.same);
-          same = simp length-set so_far.same;
-          clear =
-              ap (λ (n : ℕ). take n (set s i 0)) next
-              ∙ take-suc-set s i 0 more
-              ∙ ap (λ (l : List ℕ). l ++ zeros 1) so_far.clear
-              ∙ replicate-append-replicate i 1 0;
-        }
-
-    pub cleared_all : length s ≤ i → s ≡ zeros (length s₀)
-    cleared_all done =
-        let all : i ≡ length s₀ = omega (arith, so_far.same, so_far.few) in
-        sym (take_all i s done) ∙ so_far.clear ∙ ap zeros all
 
 pub six_bytes_lem : (s : Setting)
     → s.quota / 256 % 256 ∷ s.quota % 256 ∷ s.days % 256 ∷ s.server / 256 % 256 ∷ s.server % 256 ∷ s.principal % 256 ∷ [] ≡ setting_bytes s
@@ -113,18 +86,18 @@ module _ (quotas ids principals : List ℕ) where
   empty_size = book_size_lem two (empty_book quotas ids principals) (each_count (first_setting quotas ids principals) 0 16) (omega arith)
 
   -- the answer and the book afterwards
-  abbrev pub Opened : List ℕ → ℕ → List ℕ → Type 0
-  Opened s n after = (n ≡ written_number (written_of (opened quotas ids principals s))) × (after ≡ lent_after (opened quotas ids principals s) s)
+  abbrev pub Opened : List ℕ → Result ⊤ Refusal → List ℕ → Type 0
+  Opened s answer after = (answer ≡ done_or (refusal_number (written_of (opened quotas ids principals s)))) × (after ≡ lent_after (opened quotas ids principals s) s)
 
-  pub wrong_length : (s : List ℕ) → (length s ≡ book_size → ⊥) → Opened s 101 s
+  pub wrong_length : (s : List ℕ) → (length s ≡ book_size → ⊥) → Opened s (refused 101) s
   unfolding opened
   wrong_length s other = (rw (ne_eqb (length s) book_size other), rw (ne_eqb (length s) book_size other))
 
-  pub not_given : (s : List ℕ) → length s ≡ book_size → are_given quotas ids principals ≡ false → Opened s 103 s
+  pub not_given : (s : List ℕ) → length s ≡ book_size → are_given quotas ids principals ≡ false → Opened s (refused 103) s
   unfolding opened
   not_given s size bad = (rw (eq-eqb (length s) book_size size, bad), rw (eq-eqb (length s) book_size size, bad))
 
-  pub given : (s after : List ℕ) → length s ≡ book_size → are_given quotas ids principals ≡ true → after ≡ empty_bytes → Opened s 0 after
+  pub given : (s after : List ℕ) → length s ≡ book_size → are_given quotas ids principals ≡ true → after ≡ empty_bytes → Opened s (Ok tt) after
   unfolding opened
   given s after size good is =
       let nothing_left : drop (length empty_bytes) s ≡ [] = drop_of_length-le s {i = length empty_bytes} (omega (arith, empty_size)) in (

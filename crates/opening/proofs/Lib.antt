@@ -1,3 +1,3 @@
-pub mod Given
+pub mod GivenTests
 pub mod FirstBook
 pub mod Opens

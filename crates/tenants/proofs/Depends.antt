@@ -11,9 +11,10 @@ use Rattle.forms.specs.Order.{demand}
 use Rattle.forms.specs.Identifiers.{is_cell_name}
 use Rattle.forms.specs.Output.{Output, text, refusal}
 use Rattle.user_permit.specs.Register.{is_register}
+use Rattle.std.specs.Prelude.{Result, Ok, Err}
+use Rattle.forms.specs.declared.refusals.Refusal.{Refusal}
 use Rattle.user_permit.specs.UserPermit.{read_permit}
-use Rattle.user_permit.specs.declared.UserPermit.{UserPermit}
-use Rattle.user_permit.specs.declared.UserPermit.TheVariants as user-permit
+use Rattle.user_permit.specs.declared.Ship.{Ship}
 use Rattle.cell_permit.specs.CellPermit.{ship_words, line_of, line_end}
 use Rattle.tenants.specs.declared.Held.{Held}
 use Rattle.tenants.specs.declared.Setting.{Setting}
@@ -22,12 +23,12 @@ use Rattle.tenants.specs.Rules.{Own, is_tenant, names_none, entering, withdrawin
 use Rattle.tenants.specs.Calls.{Call, enter, withdraw, set_days, ask_edition, ask_producer, issue, check, written, answer_of}
 
 -- a line has the Data Server ID, and nothing else of a setting
-same_line : (ship : UserPermit) (cell : Option Held) (setting other : Setting) (expiry level : ℕ) → setting.server ≡ other.server
+same_line : (ship : Result Ship Refusal) (cell : Option Held) (setting other : Setting) (expiry level : ℕ) → setting.server ≡ other.server
     → line_for ship cell setting expiry level ≡ line_for ship cell other expiry level
-same_line (user-permit.Refused n) cell setting other expiry level same = refl
-same_line (user-permit.Ship hw m) none setting other expiry level same = refl
-same_line (user-permit.Ship hw m) (some cell) setting other expiry level same =
-    ap (λ (server : ℕ). demand (in_time cell expiry) (refusal 112) (text (line_of (ship_words hw) (record {
+same_line (Err r) cell setting other expiry level same = refl
+same_line (Ok ship) none setting other expiry level same = refl
+same_line (Ok ship) (some cell) setting other expiry level same =
+    ap (λ (server : ℕ). demand (in_time cell expiry) (refusal 112) (text (line_of (ship_words ship.hw_id) (record {
       name = cell.name;
       key1 = cell.key1;
       key2 = cell.key2;

@@ -11,9 +11,10 @@ use Rattle.octets.proofs.Every.{and_first, and_second, either}
 use Rattle.dates.specs.Notice.{is_days}
 use Rattle.forms.specs.Identifiers.{is_cell_name}
 use Rattle.forms.proofs.Demands.{demanded}
+use Rattle.std.specs.Prelude.{Result, Ok, Err}
+use Rattle.forms.specs.declared.refusals.Refusal.{Refusal}
 use Rattle.user_permit.specs.UserPermit.{read_permit}
-use Rattle.user_permit.specs.declared.UserPermit.{UserPermit}
-use Rattle.user_permit.specs.declared.UserPermit.TheVariants as user-permit
+use Rattle.user_permit.specs.declared.Ship.{Ship}
 use Rattle.tenants.specs.declared.Held.{Held}
 use Rattle.tenants.specs.declared.Setting.{Setting}
 use Rattle.tenants.specs.Cells.{entered, withdrawn, cell_of}
@@ -90,13 +91,13 @@ unfolding entering entering_before
 same_entering t cell own without = rw (same_held cell without)
 
 -- and sold for every expiry
-same_line_before : (ship : UserPermit) (cell : Option Held) (setting : Setting) (expiry level : ℕ)
+same_line_before : (ship : Result Ship Refusal) (cell : Option Held) (setting : Setting) (expiry level : ℕ)
     → ((it : Held) → cell ≡ some it → eqb it.last 0 ≡ true)
     → line_for ship cell setting expiry level ≡ line_for_before ship cell setting expiry level
 unfolding in_time
-same_line_before (user-permit.Refused n) cell setting expiry level without = refl
-same_line_before (user-permit.Ship hw m) none setting expiry level without = refl
-same_line_before (user-permit.Ship hw m) (some cell) setting expiry level without = rw (without cell refl)
+same_line_before (Err r) cell setting expiry level without = refl
+same_line_before (Ok ship) none setting expiry level without = refl
+same_line_before (Ok ship) (some cell) setting expiry level without = rw (without cell refl)
 
 module _ (t : ℕ) (own : Own) where
   same_issuing : (register : List ℕ) (name expiry level : ℕ) (permit : List ℕ) (room : ℕ) → None own.cells

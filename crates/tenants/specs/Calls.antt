@@ -1,14 +1,11 @@
 -- The calls that a tenant makes, and what each does and answers by the rules.
-use Rattle.std.specs.Prelude.{Bool, false, List, ℕ}
-use Rattle.forms.specs.Output.{Output}
-use Rattle.forms.specs.Output as output
-use Rattle.cell_permit.specs.Line as of-line
-use Rattle.cell_permit.specs.declared.Line.{Line}
+use Rattle.std.specs.Prelude.{Bool, false, Result, Ok, Err, List, ℕ}
+use Rattle.forms.specs.Output.{Output, written_of}
+use Rattle.forms.specs.Refusals.{refusal_number}
+use Rattle.forms.specs.declared.refusals.Refusal.{Refusal}
+use Rattle.cell_permit.specs.Line.{line_number}
+use Rattle.cell_permit.specs.declared.Record.{Record}
 use Rattle.tenants.specs.declared.Held.{Held}
-use Rattle.tenants.specs.declared.Asked.{Asked}
-use Rattle.tenants.specs.declared.Asked.TheVariants as asked
-use Rattle.tenants.specs.declared.Holding.{Holding}
-use Rattle.tenants.specs.declared.Holding.TheVariants as of-producer
 use Rattle.tenants.specs.Rules.{Own, Change, nothing, change_number, entering, withdrawing, setting_days, asking, asking_producer, issuing, checking}
 
 -- a call with all that is handed in; of an issued line's output, its length
@@ -24,38 +21,28 @@ pub data Call : Type 0 where
 -- what comes back: a number, an edition, whether any cell is held, an issued line with its bytes, or what a checked line says
 pub data Answer : Type 0 where
   number : ℕ → Answer
-  edition : Asked → Answer
-  holding : Holding → Answer
+  edition : Result ℕ Refusal → Answer
+  holding : Result Bool Refusal → Answer
   written : Output → Answer
-  read : Line → Answer
-
--- the number of an asked edition: 0 for an edition
-abbrev pub asked_number : Asked → ℕ
-asked_number (asked.Edition e) = 0
-asked_number (asked.Refused n) = n
+  read : Result Record Refusal → Answer
 
 -- the edition; 0 at a refusal
-abbrev pub asked_edition : Asked → ℕ
-asked_edition (asked.Edition e) = e
-asked_edition (asked.Refused n) = 0
-
--- the number of an asked producer: 0 for yes and for no
-abbrev pub holding_number : Holding → ℕ
-holding_number (of-producer.Any held) = 0
-holding_number (of-producer.Refused n) = n
+abbrev pub asked_edition : Result ℕ Refusal → ℕ
+asked_edition (Ok e) = e
+asked_edition (Err r) = 0
 
 -- whether any is held; no at a refusal
-abbrev pub holding_any : Holding → Bool
-holding_any (of-producer.Any held) = held
-holding_any (of-producer.Refused n) = false
+abbrev pub holding_any : Result Bool Refusal → Bool
+holding_any (Ok held) = held
+holding_any (Err r) = false
 
 -- the number of an answer
 abbrev pub answer_number : Answer → ℕ
 answer_number (number n) = n
-answer_number (edition a) = asked_number a
-answer_number (holding h) = holding_number h
-answer_number (written o) = output.written_number (output.written_of o)
-answer_number (read l) = of-line.line_number l
+answer_number (edition a) = refusal_number a
+answer_number (holding h) = refusal_number h
+answer_number (written o) = refusal_number (written_of o)
+answer_number (read l) = line_number l
 
 -- what the call of tenant t does to what is its own
 abbrev pub change_of : ℕ → Call → Own → Change

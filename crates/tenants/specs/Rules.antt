@@ -1,26 +1,22 @@
 -- The rules for one tenant, which go by its own list of cells and its own setting. Refusals stand in their order.
-use Rattle.std.specs.Prelude.{Bool, true, false, ◌&&◌, ◌||◌, List, ◌++◌, ℕ, leb, ltb, eqb, length}
+use Rattle.std.specs.Prelude.{Bool, true, false, ◌&&◌, ◌||◌, Result, Ok, Err, List, ◌++◌, ℕ, leb, ltb, eqb, length}
 use Rattle.std.proofs.Math.Option.{Option, none, some}
 use Rattle.dates.specs.Calendar.{is_date}
 use Rattle.dates.specs.Notice.{is_days}
 use Rattle.forms.specs.Order.{demand}
 use Rattle.forms.specs.Identifiers.{is_hw_id, is_producer, is_cell_name, is_cell_key}
 use Rattle.forms.specs.Output.{Output, text, refusal}
+use Rattle.forms.specs.Refusals.{number_of, refused}
+use Rattle.forms.specs.declared.refusals.Refusal.{Refusal}
 use Rattle.user_permit.specs.Register.{is_register}
 use Rattle.user_permit.specs.UserPermit.{read_permit}
-use Rattle.user_permit.specs.declared.UserPermit.{UserPermit}
-use Rattle.user_permit.specs.declared.UserPermit.TheVariants as user-permit
+use Rattle.user_permit.specs.declared.Ship.{Ship}
 use Rattle.cell_permit.specs.CellPermit.{ship_words, line_of, line_end}
 use Rattle.cell_permit.specs.Line.{read_with}
 use Rattle.cell_permit.specs.declared.Cell.{Cell}
-use Rattle.cell_permit.specs.declared.Line.{Line}
-use Rattle.cell_permit.specs.declared.Line.TheVariants as of-line
+use Rattle.cell_permit.specs.declared.Record.{Record}
 use Rattle.tenants.specs.declared.Held.{Held}
 use Rattle.tenants.specs.declared.Setting.{Setting}
-use Rattle.tenants.specs.declared.Asked.{Asked}
-use Rattle.tenants.specs.declared.Asked.TheVariants as asked
-use Rattle.tenants.specs.declared.Holding.{Holding}
-use Rattle.tenants.specs.declared.Holding.TheVariants as holding
 use Rattle.tenants.specs.Cells.{cell_of, holds_any}
 
 -- what is one tenant's own: its setting, and its cells in name order; a branch's are its principal's
@@ -93,23 +89,23 @@ setting_days t days own =
     (sets days))
 
 -- the edition of a cell: 104 where it is not held
-abbrev pub edition_of : Option Held → Asked
-edition_of none = asked.Refused 104
-edition_of (some cell) = asked.Edition cell.edition
+abbrev pub edition_of : Option Held → Result ℕ Refusal
+edition_of none = refused 104
+edition_of (some cell) = Ok cell.edition
 
 -- ask the edition
-unfoldable pub asking : ℕ → ℕ → Own → Asked
+unfoldable pub asking : ℕ → ℕ → Own → Result ℕ Refusal
 asking t name own =
-    demand (is_tenant t) (asked.Refused 102)
-    (demand (is_cell_name name) (asked.Refused 103)
+    demand (is_tenant t) (refused 102)
+    (demand (is_cell_name name) (refused 103)
     (edition_of (cell_of name own.cells)))
 
 -- ask whether any cell is held whose name begins with two given characters
-unfoldable pub asking_producer : ℕ → ℕ → Own → Holding
+unfoldable pub asking_producer : ℕ → ℕ → Own → Result Bool Refusal
 asking_producer t producer own =
-    demand (is_tenant t) (holding.Refused 102)
-    (demand (is_producer producer) (holding.Refused 103)
-    (holding.Any (holds_any producer own.cells)))
+    demand (is_tenant t) (refused 102)
+    (demand (is_producer producer) (refused 103)
+    (Ok (holds_any producer own.cells)))
 
 -- what a line is written from: edition and keys as held, the tenant's own Data Server ID, the rest as given
 abbrev pub line_cell : Setting → Held → ℕ → ℕ → Cell
@@ -128,12 +124,12 @@ unfoldable pub in_time : Held → ℕ → Bool
 in_time cell expiry = eqb cell.last 0 || leb expiry cell.last
 
 -- the line for the ship of a user permit: 106, 17, 107 or 18 as the permit reads, then 104 where the cell is not held, then 112 where it is too late
-abbrev pub line_for : UserPermit → Option Held → Setting → ℕ → ℕ → Output
-line_for (user-permit.Refused n) cell setting expiry level = refusal n
-line_for (user-permit.Ship hw m) none setting expiry level = refusal 104
-line_for (user-permit.Ship hw m) (some cell) setting expiry level =
+abbrev pub line_for : Result Ship Refusal → Option Held → Setting → ℕ → ℕ → Output
+line_for (Err r) cell setting expiry level = refusal (number_of r)
+line_for (Ok ship) none setting expiry level = refusal 104
+line_for (Ok ship) (some cell) setting expiry level =
     demand (in_time cell expiry) (refusal 112)
-    (text (line_of (ship_words hw) (line_cell setting cell expiry level) ++ line_end))
+    (text (line_of (ship_words ship.hw_id) (line_cell setting cell expiry level) ++ line_end))
 
 -- issue a line, from cell name, expiry, service level and user permit, into an output of so many bytes
 unfoldable pub issuing : ℕ → List ℕ → ℕ → ℕ → ℕ → List ℕ → ℕ → Own → Output
@@ -145,9 +141,9 @@ issuing t register name expiry level permit room own =
     (line_for (read_permit register permit) (cell_of name own.cells) own.setting expiry level))))
 
 -- check a line with the tenant's own warning days: 12, 13 and 21 as the line reads
-unfoldable pub checking : ℕ → ℕ → ℕ → List ℕ → Own → Line
+unfoldable pub checking : ℕ → ℕ → ℕ → List ℕ → Own → Result Record Refusal
 checking t hw today line own =
-    demand (is_tenant t) (of-line.Refused 102)
-    (demand (is_hw_id hw) (of-line.Refused 18)
-    (demand (is_date today) (of-line.Refused 14)
+    demand (is_tenant t) (refused 102)
+    (demand (is_hw_id hw) (refused 18)
+    (demand (is_date today) (refused 14)
     (read_with (ship_words hw) today own.setting.days line)))

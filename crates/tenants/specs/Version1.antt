@@ -1,14 +1,15 @@
 -- The rules as version 1 of the book had them, whose cells had no last expiry: entering and issuing as they stood. The other rules never look at one.
-use Rattle.std.specs.Prelude.{Bool, true, ◌&&◌, ◌||◌, List, [], ◌∷◌, ◌++◌, ℕ, leb, ltb, eqb, length}
+use Rattle.std.specs.Prelude.{Bool, true, ◌&&◌, ◌||◌, Result, Ok, Err, List, [], ◌∷◌, ◌++◌, ℕ, leb, ltb, eqb, length}
 use Rattle.std.proofs.Math.Option.{Option, none, some}
 use Rattle.dates.specs.Calendar.{is_date}
 use Rattle.forms.specs.Order.{demand}
 use Rattle.forms.specs.Identifiers.{is_cell_name, is_cell_key}
 use Rattle.forms.specs.Output.{Output, text, refusal}
+use Rattle.forms.specs.Refusals.{number_of}
+use Rattle.forms.specs.declared.refusals.Refusal.{Refusal}
 use Rattle.user_permit.specs.Register.{is_register}
 use Rattle.user_permit.specs.UserPermit.{read_permit}
-use Rattle.user_permit.specs.declared.UserPermit.{UserPermit}
-use Rattle.user_permit.specs.declared.UserPermit.TheVariants as user-permit
+use Rattle.user_permit.specs.declared.Ship.{Ship}
 use Rattle.cell_permit.specs.CellPermit.{ship_words, line_of, line_end}
 use Rattle.tenants.specs.declared.Held.{Held}
 use Rattle.tenants.specs.declared.Setting.{Setting}
@@ -46,10 +47,10 @@ entering_before t cell own =
     (enters cell))))
 
 -- the line for the ship of a user permit
-abbrev pub line_for_before : UserPermit → Option Held → Setting → ℕ → ℕ → Output
-line_for_before (user-permit.Refused n) cell setting expiry level = refusal n
-line_for_before (user-permit.Ship hw m) none setting expiry level = refusal 104
-line_for_before (user-permit.Ship hw m) (some cell) setting expiry level = text (line_of (ship_words hw) (line_cell setting cell expiry level) ++ line_end)
+abbrev pub line_for_before : Result Ship Refusal → Option Held → Setting → ℕ → ℕ → Output
+line_for_before (Err r) cell setting expiry level = refusal (number_of r)
+line_for_before (Ok ship) none setting expiry level = refusal 104
+line_for_before (Ok ship) (some cell) setting expiry level = text (line_of (ship_words ship.hw_id) (line_cell setting cell expiry level) ++ line_end)
 
 -- issue a line
 unfoldable pub issuing_before : ℕ → List ℕ → ℕ → ℕ → ℕ → List ℕ → ℕ → Own → Output

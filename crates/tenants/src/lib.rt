@@ -24,26 +24,10 @@ pub struct Setting {
     pub principal: u32,
 }
 
-// What asking for an edition answers.
-#[derive(Clone, Copy)]
-pub enum Asked {
-    Edition(u32),
-    Refused(u32),
-}
-
-// What asking for a producer answers: whether any of its cells is held.
-#[derive(Clone, Copy)]
-pub enum Holding {
-    Any(bool),
-    Refused(u32),
-}
-
 // Whether a number is a last expiry: 0 for none, or a date.
+#[tactic(auto, unfolding(crate::specs::Rules::is_last))]
 pub fn is_last(last: u32) -> bool
     ensures { result ≡ is_last last }
 {
-    if last == 0 {
-        return true;
-    }
-    dates::is_date(last)
+    last == 0 || dates::is_date(last)
 }

@@ -8,34 +8,34 @@ use native.Mathlib.Omega.{arith}
 use Rattle.octets.specs.Numbers.{Below}
 use Rattle.text.specs.Texts.{placed}
 use Rattle.layout.specs.Layout.{one, is_book_by, is_book}
-use Rattle.carrying.specs.OldForm.{old_form}
-use Rattle.carrying.proofs.OldForms.{form_facts}
+use Rattle.judging.specs.Judging.{form_test}
+use Rattle.judging.proofs.Forms.{form_facts}
 use Rattle.carrying.proofs.Wider.{wider_is}
 use Rattle.carrying.proofs.OldBooks.{old_frame, old_judged, is_damaged, no_form, wrong_size, is_carried}
 use Rattle.carrying.proofs.carry_over.Goals as goal
-use Rattle.carrying.proofs.carry_over.Goals.{After-is_book, Else-not-is_old_form}
+use Rattle.carrying.proofs.carry_over.Goals.{After-is_book, Else-not-has_old_form}
 
-pub returns-then-not-is_old_form : goal.returns-then-not-is_old_form
-returns-then-not-is_old_form c = no_form _ _ (sym c.is_old_form.ensures ∙ c.if-not-is_old_form.true)
+pub returns-then-not-has_old_form : goal.returns-then-not-has_old_form
+returns-then-not-has_old_form c = no_form _ _ (sym c.has_old_form.ensures ∙ c.if-not-has_old_form.true)
 
 -- the version 1 book has its form
-module _ (c : Else-not-is_old_form) where
+module _ (c : Else-not-has_old_form) where
   abbrev book : List ℕ
   book = c.args.book.now
 
-  formed : old_form book ≡ true
-  formed = sym c.is_old_form.ensures ∙ c.if-not-is_old_form.false
+  formed : form_test one book ≡ true
+  formed = sym c.has_old_form.ensures ∙ c.if-not-has_old_form.false
 
   below : Below 256 book
   below k = omega (arith, c.type_inv.book k)
 
 pub put_book-requires : goal.put_book-requires
-put_book-requires c = (formed (goal.at.put_book-requires c).Else-not-is_old_form, refl)
+put_book-requires c = (formed (goal.at.put_book-requires c).Else-not-has_old_form, refl)
 
 -- what judging the written book finds is found of the version 1 book
-judged : (c : After-is_book) → let form = (goal.at.After-is_book c).Else-not-is_old_form in c.is_book.result ≡ is_book_by one (book form)
+judged : (c : After-is_book) → let form = (goal.at.After-is_book c).Else-not-has_old_form in c.is_book.result ≡ is_book_by one (book form)
 judged c =
-    let form = (goal.at.After-is_book c).Else-not-is_old_form in
+    let form = (goal.at.After-is_book c).Else-not-has_old_form in
     c.is_book.ensures ∙ ap is_book c.put_book.ensures ∙ old_judged (book form) (below form) (formed form)
 
 pub returns-then-not-is_book : goal.returns-then-not-is_book
@@ -48,9 +48,9 @@ pub returns : goal.returns
 returns c =
     let found = (goal.at.returns c).After-is_book in
     let lent : List ℕ = c.args.new.now in
-    let form = (goal.at.returns c).Else-not-is_old_form in
+    let form = (goal.at.returns c).Else-not-has_old_form in
     let undamaged : is_book_by one (book form) ≡ true = sym (judged found) ∙ c.if-not-is_book.false in
     is_carried _ _ undamaged c.if-new-ne-BOOK_SIZE.false _
     (c.put_text.ensures
     ∙ ap (λ (t : List ℕ). placed 0 t lent)
-    (c.put_book.ensures ∙ wider_is (book form) (below form) (form_facts (book form) (formed form)) (old_frame (book form) undamaged)))
+    (c.put_book.ensures ∙ wider_is (book form) (below form) (form_facts one (book form) (formed form)) (old_frame (book form) undamaged)))

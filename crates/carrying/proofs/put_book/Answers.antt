@@ -8,8 +8,8 @@ use lib.ListN.{length, length-replicate}
 use Rattle.octets.specs.Numbers.{Below, bytes_of}
 use Rattle.text.specs.Texts.{placed}
 use Rattle.text.proofs.PlacedTexts.{length-placed}
-use Rattle.layout.specs.Layout.{book_size, used_length}
-use Rattle.carrying.proofs.OldForms.{Formed, form_facts}
+use Rattle.layout.specs.Layout.{one, book_size, used_length}
+use Rattle.judging.proofs.Forms.{Formed, form_facts}
 use Rattle.carrying.proofs.Puts.{wider_put}
 use Rattle.carrying.proofs.put_book.Goals as goal
 use Rattle.carrying.proofs.put_book.Goals.{After-old_count, Start}
@@ -22,8 +22,8 @@ module _ (c : After-old_count) where
   abbrev book : List ℕ
   book = start.args.book.now
 
-  formed : Formed book
-  formed = form_facts book start.requires.0
+  formed : Formed one book
+  formed = form_facts one book start.requires.0
 
   below : Below 256 book
   below k = omega (arith, c.type_inv.book k)

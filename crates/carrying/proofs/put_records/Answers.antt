@@ -10,38 +10,38 @@ use Rattle.octets.proofs.Places.{part_length}
 use Rattle.text.specs.Texts.{part, placed}
 use Rattle.layout.specs.Layout.{one, record_size_by, record_count_by, record_place_by, record_place, zeros}
 use Rattle.judging.proofs.Parts.{part_lent_lem}
-use Rattle.carrying.proofs.OldForms.{Formed, form_facts}
+use Rattle.judging.proofs.Forms.{Formed, form_facts}
 use Rattle.carrying.proofs.Puts.{records_none, records_next, records_all}
 use Rattle.carrying.proofs.put_records.Goals as goal
-use Rattle.carrying.proofs.put_records.Goals.{After-old_count-n, In-loop-i, Start}
+use Rattle.carrying.proofs.put_records.Goals.{After-old_count-i-end, In-loop-i, Start}
 
 -- the version 1 book, which has its form
-module _ (c : After-old_count-n) where
+module _ (c : After-old_count-i-end) where
   abbrev start : Start
-  start = (goal.at.After-old_count-n c).Start
+  start = (goal.at.After-old_count-i-end c).Start
 
   abbrev book : List ℕ
   book = start.args.book.now
 
-  formed : Formed book
-  formed = form_facts book start.requires.0
+  formed : Formed one book
+  formed = form_facts one book start.requires.0
 
   below : Below 256 book
   below k = omega (arith, c.type_inv.book k)
 
 pub loop-i-init : goal.loop-i-init
-loop-i-init c = records_none (book (goal.at.loop-i-init c).After-old_count-n) (below (goal.at.loop-i-init c).After-old_count-n) (formed (goal.at.loop-i-init c).After-old_count-n) (start (goal.at.loop-i-init c).After-old_count-n).requires.1
+loop-i-init c = records_none (book (goal.at.loop-i-init c).After-old_count-i-end) (below (goal.at.loop-i-init c).After-old_count-i-end) (formed (goal.at.loop-i-init c).After-old_count-i-end) (start (goal.at.loop-i-init c).After-old_count-i-end).requires.1
 
 -- record i is there, and it is copied whole
 module _ (c : In-loop-i) where
-  abbrev counted : After-old_count-n
-  counted = (goal.at.In-loop-i c).After-old_count-n
+  abbrev counted : After-old_count-i-end
+  counted = (goal.at.In-loop-i c).After-old_count-i-end
 
   abbrev i : ℕ
   i = c.loop-i.i
 
   more : i < record_count_by one (book counted)
-  more = omega (arith, counted.old_count-n.ensures, c.loop-i-test.true)
+  more = omega (arith, counted.old_count-i-end.ensures, c.loop-i-test.true)
 
   inside : record_place_by one i + record_size_by one ≤ length (book counted)
   inside = omega (arith, more, (formed counted).size, (formed counted).few)
@@ -71,5 +71,5 @@ shape_of-new c = c.loop-i.invariant.put.same
 
 pub returns : goal.returns
 returns c =
-    let counted = (goal.at.returns c).After-old_count-n in
-    records_all (book counted) (below counted) (formed counted) c.loop-i.invariant (omega (arith, c.old_count-n.ensures, c.loop-i-test.false))
+    let counted = (goal.at.returns c).After-old_count-i-end in
+    records_all (book counted) (below counted) (formed counted) c.loop-i.invariant (omega (arith, c.old_count-i-end.ensures, c.loop-i-test.false))

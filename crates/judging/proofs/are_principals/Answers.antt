@@ -1,22 +1,14 @@
--- `judging::are_principals` meets its contract. The invariant: the tenants before t may name as they do.
--- Assumes nothing.
-use mathlib.Core.Path.{sym, ◌∙◌}
-use Rattle.judging.specs.Judging.{principals_test}
-use Rattle.layout.proofs.AllFrom.{passed_none, passed-next, passed_all, one_fails}
+-- `judging::are_principals` meets its contract. Assumes nothing.
+use Rattle.std.proofs.Common.{refl, ◌∙◌, rules}
+use Rattle.std.proofs.lemmas.Iterator.{YieldsList-from_range}
+use Rattle.std.proofs.lemmas.Iterator.Search.{all_from_yields_List}
+use Rattle.judging.specs.Judging.{principal_test, principals_test}
+use Rattle.layout.proofs.AllFrom.{all_listed}
 use Rattle.judging.proofs.are_principals.Goals as goal
-
-pub loop-t-init : goal.loop-t-init
-loop-t-init c = passed_none _
-
-pub returns-then-not-is_principal : goal.returns-then-not-is_principal
-unfolding principals_test
-returns-then-not-is_principal c =
-    sym (one_fails _ 16 _ c.loop-t-test.true (sym c.is_principal.ensures ∙ c.if-not-is_principal.true))
-
-pub loop-t-preserved : goal.loop-t-preserved
-loop-t-preserved c =
-    passed-next _ _ c.loop-t.invariant (sym c.is_principal.ensures ∙ c.if-not-is_principal.false)
 
 pub returns : goal.returns
 unfolding principals_test
-returns c = sym (passed_all _ 16 _ c.loop-t.invariant c.loop-t-test.false)
+returns c =
+    let book = c.args.book.now in
+    all_from_yields_List (principal_test book) _ _ _ c.all.ensures.ran (YieldsList-from_range 0 16 16 refl refl) (λ x b q k. search rules)
+    ∙ all_listed (principal_test book) 0 16

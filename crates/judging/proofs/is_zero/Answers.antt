@@ -3,11 +3,11 @@
 use Rattle.judging.proofs.Zeros.{zeros_start, zeros-next, zeros_end}
 use Rattle.judging.proofs.is_zero.Goals as goal
 
-pub loop-i-init : goal.loop-i-init
-loop-i-init c = zeros_start
+pub loop-b-init : goal.loop-b-init
+loop-b-init c = zeros_start
 
-pub loop-i-preserved : goal.loop-i-preserved
-loop-i-preserved c = zeros-next c.loop-i.invariant c.loop-i-test.true
+pub loop-b-preserved : goal.loop-b-preserved
+loop-b-preserved c = zeros-next c.loop-b.invariant c.loop-b-test.true
 
 pub returns : goal.returns
-returns c = zeros_end c.loop-i.invariant c.loop-i-test.false
+returns c = zeros_end c.loop-b.invariant c.loop-b-test.false

@@ -5,7 +5,7 @@ use Prim.Native.Nat.{◌-◌, ◌/◌}
 use native.Mathlib.Omega.{arith}
 use Rattle.layout.specs.Layout.{record_size}
 use Rattle.judging.specs.Judging.{part_from}
-use Rattle.judging.specs.declared.Part.TheVariants.{Ends}
+use Rattle.std.specs.Prelude.{Some}
 use Rattle.judging.proofs.PartsSteps.{part_leaves, left_all, left_none, left-wrong, left-long, left-next}
 use Rattle.judging.proofs.parts_from.Goals as goal
 use Rattle.judging.proofs.parts_from.Goals.{After-number16-quota}
@@ -14,8 +14,8 @@ use Rattle.judging.proofs.parts_from.Goals.{After-number16-quota}
 ends : (c : After-number16-quota)
     → let now = c.loop-t in
     let args = c.args in
-    part_from args.book.now now.t 0 now.at ((args.used - now.at) / record_size) ≡ Ends c.in-Ends.end
-ends c = sym c.part_from.ensures ∙ c.in-Ends.is
+    part_from args.book.now now.t 0 now.at ((args.used - now.at) / record_size) ≡ Some c.in_ok-end.end
+ends c = sym c.part_from.ensures ∙ c.in_ok-end.was
 
 pub loop-t-init : goal.loop-t-init
 loop-t-init c = left_all _ _ _ _ _ (omega arith) (record { most = omega arith; fits = omega arith })
@@ -23,9 +23,9 @@ loop-t-init c = left_all _ _ _ _ _ (omega arith) (record { most = omega arith; f
 pub part_from-requires : goal.part_from-requires
 part_from-requires c = let whole = c.loop-t.invariant.whole in (whole.most, omega arith, whole.fits)
 
-pub returns-in_default : goal.returns-in_default
-returns-in_default c =
-    left-wrong _ _ _ _ _ c.loop-t.invariant c.loop-t-test.true (sym c.part_from.ensures ∙ c.in_default.is)
+pub returns-in_err-end : goal.returns-in_err-end
+returns-in_err-end c =
+    c.from_residual.ensures ∙ left-wrong _ _ _ _ _ c.loop-t.invariant c.loop-t-test.true (sym c.part_from.ensures ∙ c.in_err-end.was)
 
 pub overflow_sub-end : goal.overflow_sub-end
 overflow_sub-end c = (part_leaves _ _ _ _ _ c.loop-t.invariant.whole (ends (goal.at.overflow_sub-end c).After-number16-quota)).0

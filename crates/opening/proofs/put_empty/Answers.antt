@@ -1,9 +1,0 @@
--- `opening::put_empty` meets its contract: zeros, and the start and the settings on them.
--- Assumes nothing.
-use Rattle.opening.proofs.FirstBook.{empty_placed}
-use Rattle.opening.proofs.put_empty.Goals as goal
-
-pub returns : goal.returns
-returns c =
-    empty_placed _ _ _ _ _ _ _ c.requires.0
-    c.clear.ensures c.put_text.ensures c.put_settings.ensures
