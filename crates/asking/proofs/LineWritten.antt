@@ -6,13 +6,13 @@ use mathlib.Core.List.{List}
 use mathlib.Core.Option.{Option, none, some}
 use Prim.Native.Nat.{ℕ, ◌^◌, ◌≤◌}
 use borrow.Author.Tests.{le-leb, lt-ltb}
+use Rattle.std.specs.Prelude.{Ok}
 use Rattle.octets.proofs.Every.{and_first, and_second}
 use Rattle.dates.specs.Calendar.{is_date}
 use Rattle.dates.specs.Notice.{is_days}
 use Rattle.forms.specs.Identifiers.{is_server_id}
 use Rattle.user_permit.specs.UserPermit.{read_permit}
-use Rattle.user_permit.specs.declared.UserPermit.{UserPermit}
-use Rattle.user_permit.specs.declared.UserPermit.TheVariants as user-permit
+use Rattle.user_permit.specs.declared.Ship.{Ship}
 use Rattle.user_permit.proofs.ShipRead.{ship_form}
 use Rattle.cell_permit.specs.CellPermit.{is_cell, written_line}
 use Rattle.tenants.specs.declared.Held.{Held}
@@ -59,15 +59,14 @@ module _ (s : List ℕ) (t : ℕ) (undamaged : is_book s ≡ true) (tenant : is_
         )
 
     -- so writing gives the line of the rules
-    pub line-written : (register permit : List ℕ) (name room : ℕ) → 76 ≤ room
-        → line_for (read_permit register permit) (cell_of name (own_in s t).cells) (own_in s t).setting expiry level
-        ≡ line_written (read_permit register permit) (cell_of name (own_in s t).cells) (own_in s t).setting expiry level room
+    pub line-written : (register permit : List ℕ) (ship : Ship) → read_permit register permit ≡ Ok ship → (name room : ℕ) → 76 ≤ room
+        → line_for (Ok ship) (cell_of name (own_in s t).cells) (own_in s t).setting expiry level
+        ≡ line_written ship.hw_id (cell_of name (own_in s t).cells) (own_in s t).setting expiry level room
     unfolding written_line
-    line-written register permit name room fits_in = go (read_permit register permit) (cell_of name (own_in s t).cells) refl refl
+    line-written register permit ship read name room fits_in = go (cell_of name (own_in s t).cells) refl
       where
-        go : (ship : UserPermit) (found : Option Held) → read_permit register permit ≡ ship → cell_of name (own_in s t).cells ≡ found
-            → line_for ship found (own_in s t).setting expiry level ≡ line_written ship found (own_in s t).setting expiry level room
-        go (user-permit.Refused n) found read is = refl
-        go (user-permit.Ship hw m) none read is = refl
-        go (user-permit.Ship hw m) (some cell) read is =
-            sym (rw (le-leb 76 room fits_in, cell-good name cell is, ship_form hw m register permit read) refl)
+        go : (found : Option Held) → cell_of name (own_in s t).cells ≡ found
+            → line_for (Ok ship) found (own_in s t).setting expiry level ≡ line_written ship.hw_id found (own_in s t).setting expiry level room
+        go none is = refl
+        go (some cell) is =
+            sym (rw (le-leb 76 room fits_in, cell-good name cell is, ship_form ship register permit read) refl)

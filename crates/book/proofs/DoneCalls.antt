@@ -73,8 +73,8 @@ module _ (s : List ℕ) (t : ℕ) (cell : Held) (undamaged : is_book s ≡ true)
   unfolding edition_in asking
   gives_cell = record {
     asked = rw (undamaged, tenant, is_name, found);
-    issued = λ register permit expiry level room hw m order.
-        issued_line s register permit t cell.name expiry level room hw m cell undamaged tenant order.registered order.ship found
+    issued = λ register permit expiry level room ship order.
+        issued_line s register permit t cell.name expiry level room ship cell undamaged tenant order.registered order.read found
         order.date order.low order.roomy;
     checked = λ expiry level hw today date low form now. line_checked s t cell.name expiry level hw today cell undamaged tenant found date low form now;
   }
@@ -86,8 +86,8 @@ module _ (s : List ℕ) (t name : ℕ) (undamaged : is_book s ≡ true) (tenant 
   unfolding edition_in asking issued_from issuing
   gives_nothing = record {
     asked = rw (undamaged, tenant, is_name, absent);
-    issued = λ register permit expiry level room hw m order.
-        rw (undamaged, order.registered, tenant, le-leb 76 room order.roomy, is_name, order.date, le-leb level 1 order.low, order.ship, absent);
+    issued = λ register permit expiry level room ship order.
+        rw (undamaged, order.registered, tenant, le-leb 76 room order.roomy, is_name, order.date, le-leb level 1 order.low, order.read, absent);
   }
 
 -- tenant t's call on an undamaged book, which does this to the cells of tenant u, who reads its list

@@ -1,6 +1,5 @@
 -- Issue goes by what a user permit reads as, and check by what a line reads as; neither depends on the case of letters.
 -- Assumes nothing.
-use mathlib.Core.Path.{◌≡◌}
 use Rattle.forms.proofs.HwIds.{same_form}
 use Rattle.user_permit.proofs.EitherCases.{permit_either_case}
 use Rattle.cell_permit.specs.CellPermit.{ship_words}

@@ -5,11 +5,12 @@ use mathlib.Core.Bool.{true}
 use mathlib.Core.List.{List, [], ◌∷◌}
 use mathlib.Core.Option.{Option, none, some}
 use Prim.Native.Nat.{ℕ}
-use native.Mathlib.Omega.{arith}
+use Rattle.std.specs.Prelude.{Result, Ok, Err}
 use Rattle.octets.specs.Every.{count_of}
+use Rattle.forms.specs.Refusals.{refused, refusal_number}
+use Rattle.forms.specs.declared.refusals.Refusal.{Refusal}
 use Rattle.forms.proofs.Demands.{demanded}
 use Rattle.tenants.specs.declared.Held.{Held}
-use Rattle.tenants.specs.declared.Asked.TheVariants as asked
 use Rattle.tenants.specs.Cells.{cell_of}
 use Rattle.tenants.specs.Rules.{Change, enters, withdraws, refuses, change_number, is_tenant, is_held, names_none, is_some, edition_of, entering, asking}
 use Rattle.tenants.specs.Calls.{enter, withdraw, number}
@@ -23,11 +24,9 @@ use Rattle.layout.specs.Layout.{book_of, is_book, own_in}
 use Rattle.records.proofs.Found.{Here, Gone}
 use Rattle.records.proofs.Listed.{entered_gone, withdrawn_here}
 use Rattle.records.proofs.OwnFound.{held_somewhere, absent_somewhere}
-use Rattle.changing.specs.declared.house.Moved.{Moved}
-use Rattle.changing.specs.declared.house.Moved.TheVariants.{Done, Refused}
 use Rattle.changing.specs.Changing.{entry, withdrawal}
-use Rattle.changing.specs.House.{moved_number, moved_records, house_answer}
-use Rattle.changing.proofs.Numbers.{same_number}
+use Rattle.changing.specs.House.{moved_records, house_answer}
+use Rattle.changing.proofs.Numbers.{entry_numbered, withdrawal_numbered}
 use Rattle.asking.specs.Asking.{edition_in}
 use Rattle.book.specs.OnBook.{book_after}
 use Rattle.book.specs.House.{house_enter, house_withdraw, AsTenants, RefusedMovesNone, ReplacedMovesNone, Moves, EnterMoves, WithdrawMoves}
@@ -36,11 +35,11 @@ use Rattle.book.proofs.DoneCalls.{entered-passed, entered_so, withdrawn-passed, 
 use Rattle.book.proofs.Producers.{told_held, edition-passed}
 
 pub as_tenants : AsTenants
-as_tenants s t = (λ cell. ap number (same_number t s (entry s t cell)), λ name. ap number (same_number t s (withdrawal s t name)))
+as_tenants s t = (λ cell. ap number ((entry_numbered s t cell).houses t s), λ name. ap number ((withdrawal_numbered s t name).houses t s))
 
-moves_none : (a : Moved) → (moved_number a ≡ 0 → ⊥) → moved_records a ≡ 0
-moves_none (Done n) refused = absurd (refused refl)
-moves_none (Refused n) refused = refl
+moves_none : (a : Result ℕ Refusal) → (refusal_number a ≡ 0 → ⊥) → moved_records a ≡ 0
+moves_none (Ok n) wrong = absurd (wrong refl)
+moves_none (Err r) wrong = refl
 
 pub refused_moves_none : RefusedMovesNone
 refused_moves_none s t = (λ cell. moves_none (house_enter s t cell), λ name. moves_none (house_withdraw s t name))
@@ -57,11 +56,11 @@ replaced_moves_none s t cell e told =
     (λ _. demanded none-moved (has_room cell (own_in s t)) (refuses 105) (enters cell) refl (λ _. none-replaced t cell (book_of s) held.0 held.1)))))
 
 -- who is told 104 does not hold the cell
-told_absent : (held : Option Held) → edition_of held ≡ asked.Refused 104 → held ≡ none
+told_absent : (held : Option Held) → edition_of held ≡ refused 104 → held ≡ none
 told_absent none told = refl
-told_absent (some c) told = let z : ◌≡◌ {A = ℕ} 0 1 = cc in absurd (omega arith)
+told_absent (some c) told = cc
 
-module _ (s : List ℕ) (t : ℕ) (cell : Held) (done : change_number (entry s t cell) ≡ 0) (new : edition_in s t cell.name ≡ asked.Refused 104) where
+module _ (s : List ℕ) (t : ℕ) (cell : Held) (done : change_number (entry s t cell) ≡ 0) (new : edition_in s t cell.name ≡ refused 104) where
   undamaged : is_book s ≡ true
   undamaged = (entered-passed s t cell done).0
 
@@ -89,7 +88,7 @@ module _ (s : List ℕ) (t : ℕ) (cell : Held) (done : change_number (entry s t
 
 pub enter_moves : EnterMoves
 enter_moves s t cell told new =
-    let done = sym (same_number t s (entry s t cell)) ∙ told in
+    let done = sym ((entry_numbered s t cell).houses t s) ∙ told in
     let place = around s t cell done new in
     let h : Gone (full_name t cell.name) (book_of s).records place.0 = place.1 in
     let then = entered_gone (in_book t cell) (book_of s).records place.0 h in
@@ -130,7 +129,7 @@ module _ (s : List ℕ) (t name : ℕ) (done : change_number (withdrawal s t nam
 
 pub withdraw_moves : WithdrawMoves
 withdraw_moves s t name told =
-    let done = sym (same_number t s (withdrawal s t name)) ∙ told in
+    let done = sym ((withdrawal_numbered s t name).houses t s) ∙ told in
     let place = held_there s t name done in
     let h : Here (full_name t name) (book_of s).records place.0 = place.1 in
     let then = withdrawn_here (full_name t name) (book_of s).records place.0 h in

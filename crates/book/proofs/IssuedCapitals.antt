@@ -1,42 +1,41 @@
 -- What is issued is in capitals: it is a line that writing gives, or a refusal.
 -- Assumes nothing.
-use mathlib.Core.Path.{refl}
+use mathlib.Core.Path.{◌≡◌, refl}
 use mathlib.Core.Bool.{◌&&◌}
 use mathlib.Core.Option.{Option, none, some}
 use Prim.Native.Nat.{ℕ}
 use borrow.Author.Tests.{leb-true}
 use lib.Dec.{leb}
+use Rattle.std.specs.Prelude.{Result, Ok, Err}
 use Rattle.octets.proofs.Every.{and_first, and_second}
 use Rattle.dates.specs.Calendar.{is_date}
 use Rattle.forms.specs.Identifiers.{is_cell_name}
 use Rattle.forms.specs.Output.{refusal, InCapitals}
 use Rattle.forms.proofs.Demands.{demanded}
+use Rattle.forms.specs.declared.refusals.Refusal.{Refusal}
 use Rattle.user_permit.specs.Register.{is_register}
 use Rattle.user_permit.specs.UserPermit.{read_permit}
-use Rattle.user_permit.specs.declared.UserPermit.{UserPermit}
-use Rattle.user_permit.specs.declared.UserPermit.TheVariants.{Ship, Refused}
+use Rattle.user_permit.specs.declared.Ship.{Ship}
 use Rattle.cell_permit.proofs.WrittenCapitals.{written_in_capitals}
 use Rattle.tenants.specs.declared.Held.{Held}
 use Rattle.tenants.specs.declared.Setting.{Setting}
 use Rattle.tenants.specs.Cells.{cell_of}
-use Rattle.tenants.specs.Rules.{is_tenant, line_cell, in_time, issuing}
+use Rattle.tenants.specs.Rules.{is_tenant, line_cell, in_time, line_for, issuing}
 use Rattle.layout.specs.Layout.{is_book, own_in}
 use Rattle.asking.specs.Asking.{issued_from}
 use Rattle.asking.specs.Issuing.{line_written}
 use Rattle.asking.proofs.LineWritten.{line-written}
 use Rattle.book.specs.EitherCase.{IssuedInCapitals}
 
-line_in_capitals : (ship : UserPermit) (cell : Option Held) (setting : Setting) (expiry level room : ℕ)
-    → InCapitals (line_written ship cell setting expiry level room)
-line_in_capitals (Refused n) cell setting expiry level room = refl
-line_in_capitals (Ship hw m) none setting expiry level room = refl
-line_in_capitals (Ship hw m) (some cell) setting expiry level room =
+line_in_capitals : (hw : ℕ) (cell : Option Held) (setting : Setting) (expiry level room : ℕ)
+    → InCapitals (line_written hw cell setting expiry level room)
+line_in_capitals hw none setting expiry level room = refl
+line_in_capitals hw (some cell) setting expiry level room =
     demanded InCapitals (in_time cell expiry) (refusal 112) _ refl (λ _. written_in_capitals hw room (line_cell setting cell expiry level))
 
 pub issued_in_capitals : IssuedInCapitals
 unfolding issued_from issuing
 issued_in_capitals s register permit t name expiry level room =
-    let ship = read_permit register permit in
     let cell = cell_of name (own_in s t).cells in
     demanded InCapitals (is_book s) (refusal 101) _ refl
     (λ undamaged. demanded InCapitals (is_register register) (refusal 109) _ refl
@@ -46,5 +45,11 @@ issued_in_capitals s register permit t name expiry level room =
     (λ values.
     let date = and_second (is_cell_name name) (is_date expiry) (and_first (is_cell_name name && is_date expiry) (leb level 1) values) in
     let low = leb-true level 1 (and_second (is_cell_name name && is_date expiry) (leb level 1) values) in
-    rw (line-written s t undamaged tenant expiry level date low register permit name room (leb-true 76 room roomy))
-    (line_in_capitals ship cell (own_in s t).setting expiry level room))))))
+    go cell (own_in s t).setting (read_permit register permit) refl
+    (λ ship read. line-written s t undamaged tenant expiry level date low register permit ship read name room (leb-true 76 room roomy)))))))
+  where
+    go : (cell : Option Held) (setting : Setting) (read : Result Ship Refusal) → read_permit register permit ≡ read
+        → ((ship : Ship) → read_permit register permit ≡ Ok ship → line_for (Ok ship) cell setting expiry level ≡ line_written ship.hw_id cell setting expiry level room)
+        → InCapitals (line_for read cell setting expiry level)
+    go cell setting (Err r) is written = refl
+    go cell setting (Ok ship) is written = rw (written ship is) (line_in_capitals ship.hw_id cell setting expiry level room)

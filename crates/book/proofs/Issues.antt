@@ -7,6 +7,7 @@ use mathlib.Core.Option.{some}
 use Prim.Native.Nat.{ℕ, ◌≤◌}
 use native.Mathlib.Omega.{arith}
 use borrow.Author.Tests.{le-leb}
+use Rattle.std.specs.Prelude.{Ok}
 use Rattle.dates.specs.Calendar.{is_date}
 use Rattle.dates.specs.Notice.{is_days}
 use Rattle.forms.specs.Identifiers.{is_hw_id, is_cell_name}
@@ -14,7 +15,7 @@ use Rattle.forms.specs.Order.{demand}
 use Rattle.forms.specs.Output.{text, refusal}
 use Rattle.user_permit.specs.Register.{is_register}
 use Rattle.user_permit.specs.UserPermit.{read_permit}
-use Rattle.user_permit.specs.declared.UserPermit.TheVariants.{Ship}
+use Rattle.user_permit.specs.declared.Ship.{Ship}
 use Rattle.user_permit.proofs.ShipRead.{ship_form}
 use Rattle.cell_permit.specs.CellPermit.{ship_words, line_of, line_end}
 use Rattle.cell_permit.specs.Line.{given_number, read_with, read_line}
@@ -41,15 +42,15 @@ module _ (hw today days : ℕ) (form : is_hw_id hw ≡ true) (date : is_date tod
   read_so line = rw given-zero
 
 -- the line that is issued of a held cell
-module _ (s register permit : List ℕ) (t name expiry level room hw m : ℕ) (cell : Held) (undamaged : is_book s ≡ true) (tenant : is_tenant t ≡ true)
-    (registered : is_register register ≡ true) (ship : read_permit register permit ≡ Ship hw m) (found : cell_of name (own_in s t).cells ≡ some cell)
+module _ (s register permit : List ℕ) (t name expiry level room : ℕ) (ship : Ship) (cell : Held) (undamaged : is_book s ≡ true) (tenant : is_tenant t ≡ true)
+    (registered : is_register register ≡ true) (read : read_permit register permit ≡ Ok ship) (found : cell_of name (own_in s t).cells ≡ some cell)
     (date : is_date expiry ≡ true) (low : level ≤ 1) (roomy : 76 ≤ room) where
   pub issued_line : issued_from s register t name expiry level permit room
-      ≡ demand (in_time cell expiry) (refusal 112) (text (line_of (ship_words hw) (line_cell (own_in s t).setting cell expiry level) ++ line_end))
+      ≡ demand (in_time cell expiry) (refusal 112) (text (line_of (ship_words ship.hw_id) (line_cell (own_in s t).setting cell expiry level) ++ line_end))
   unfolding issued_from issuing
   issued_line =
       let is_name : is_cell_name name ≡ true = ap is_cell_name (sym (found_name name (own_in s t).cells cell found)) ∙ (fits s t undamaged tenant name cell found).name in
-      rw (undamaged, registered, tenant, le-leb 76 room roomy, is_name, date, le-leb level 1 low, ship, found) refl
+      rw (undamaged, registered, tenant, le-leb 76 room roomy, is_name, date, le-leb level 1 low, read, found) refl
 
 -- what the tenant's own check answers to it
 pub line_checked : (s : List ℕ) (t name expiry level hw today : ℕ) (cell : Held) → is_book s ≡ true → is_tenant t ≡ true
@@ -66,10 +67,10 @@ line_checked s t name expiry level hw today cell undamaged tenant found date low
     (cell-good s t undamaged tenant expiry level date low name cell found) (given-zero hw today setting.days form now days) (omega arith)).1.1)
 
 pub issued_reads_back : IssuedReadsBack
-issued_reads_back s register permit t name expiry level room hw m today cell undamaged tenant registered ship found date early low roomy now = (
+issued_reads_back s register permit t name expiry level room today ship cell undamaged tenant registered read found date early low roomy now = (
   found_name name (own_in s t).cells cell found,
   (
-    rw early at (issued_line s register permit t name expiry level room hw m cell undamaged tenant registered ship found date low roomy),
-    line_checked s t name expiry level hw today cell undamaged tenant found date low (ship_form hw m register permit ship) now,
+    rw early at (issued_line s register permit t name expiry level room ship cell undamaged tenant registered read found date low roomy),
+    line_checked s t name expiry level ship.hw_id today cell undamaged tenant found date low (ship_form ship register permit read) now,
   ),
 )

@@ -7,15 +7,16 @@ use mathlib.Core.Option.{Option, none, some}
 use Prim.Native.Nat.{ℕ}
 use borrow.Author.Tests.{ne_eqb, eqb-false, lt-leb, leb-false}
 use lib.Dec.{leb, eqb}
+use Rattle.std.specs.Prelude.{Result, Ok, Err}
 use Rattle.octets.proofs.Every.{either}
 use Rattle.dates.specs.Calendar.{is_date}
 use Rattle.forms.specs.Order.{demand}
 use Rattle.forms.specs.Identifiers.{is_cell_name}
 use Rattle.forms.specs.Output.{Output, text, refusal}
 use Rattle.user_permit.specs.Register.{is_register}
+use Rattle.forms.specs.declared.refusals.Refusal.{Refusal}
 use Rattle.user_permit.specs.UserPermit.{read_permit}
-use Rattle.user_permit.specs.declared.UserPermit.{UserPermit}
-use Rattle.user_permit.specs.declared.UserPermit.TheVariants.{Ship, Refused}
+use Rattle.user_permit.specs.declared.Ship.{Ship}
 use Rattle.tenants.specs.declared.Held.{Held}
 use Rattle.tenants.specs.declared.Setting.{Setting}
 use Rattle.tenants.specs.Cells.{cell_of}
@@ -54,11 +55,11 @@ module _ (cell : Option Held) (expiry : ℕ) where
   first true n before now limits = limits
   first false n before now limits = record { refused = λ k same. same; lined = λ line same. absurd (no_line same) }
 
-lines : (ship : UserPermit) (cell : Option Held) (setting : Setting) (expiry level : ℕ)
+lines : (ship : Result Ship Refusal) (cell : Option Held) (setting : Setting) (expiry level : ℕ)
     → Limits cell expiry (line_for_before ship cell setting expiry level) (line_for ship cell setting expiry level)
-lines (Refused n) cell setting expiry level = record { refused = λ k same. same; lined = λ line same. absurd (no_line same) }
-lines (Ship hw m) none setting expiry level = record { refused = λ k same. same; lined = λ line same. absurd (no_line same) }
-lines (Ship hw m) (some cell) setting expiry level = record {
+lines (Err r) cell setting expiry level = record { refused = λ k same. same; lined = λ line same. absurd (no_line same) }
+lines (Ok ship) none setting expiry level = record { refused = λ k same. same; lined = λ line same. absurd (no_line same) }
+lines (Ok ship) (some cell) setting expiry level = record {
   refused = λ k same. cc;
   lined = λ line same. (cell, refl, (λ too. rw (late cell expiry too), λ not. rw (early cell expiry not) same));
 }

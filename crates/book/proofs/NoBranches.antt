@@ -3,8 +3,8 @@
 use mathlib.Core.Path.{◌≡◌, sym, ap, ◌∙◌}
 use mathlib.Core.List.{List}
 use Prim.Native.Nat.{ℕ}
+use Rattle.std.specs.Prelude.{Ok}
 use Rattle.octets.proofs.Every.{never_both}
-use Rattle.tenants.specs.declared.Holding.TheVariants.{Any}
 use Rattle.tenants.specs.Rules.{Own, names_none}
 use Rattle.tenants.specs.Together.{own_of}
 use Rattle.tenants.proofs.Kept.{own_list}
@@ -46,5 +46,5 @@ old_promises s undamaged none = record {
   quota_decides = λ t cell tenant held. quota_decides_lem s t cell undamaged tenant held (none t);
   held_replaced = λ t cell old tenant held. held_replaced_lem s t cell old undamaged tenant held (none t);
   as_every_record = λ t producer tenant right.
-      as_every_record_lem s t producer undamaged tenant right ∙ ap (λ (l : ℕ). Any (any_record l producer (book_of s).records)) (reads_own s none t);
+      as_every_record_lem s t producer undamaged tenant right ∙ ap (λ (l : ℕ). Ok (any_record l producer (book_of s).records)) (reads_own s none t);
 }

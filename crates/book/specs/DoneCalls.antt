@@ -1,17 +1,17 @@
 -- What the book promises of a call that is done: what the calls of the tenant, and of its branches, answer afterwards.
-use Rattle.std.specs.Prelude.{◌≡◌, true, List, ◌++◌, ℕ, ◌≤◌}
+use Rattle.std.specs.Prelude.{◌≡◌, true, List, ◌++◌, ℕ, ◌≤◌, Ok}
 use Rattle.dates.specs.Calendar.{is_date}
 use Rattle.forms.specs.Order.{demand}
 use Rattle.forms.specs.Identifiers.{is_hw_id}
 use Rattle.forms.specs.Output.{text, refusal}
+use Rattle.forms.specs.Refusals.{refused}
 use Rattle.user_permit.specs.Register.{is_register}
 use Rattle.user_permit.specs.UserPermit.{read_permit}
-use Rattle.user_permit.specs.declared.UserPermit.TheVariants.{Ship}
+use Rattle.user_permit.specs.declared.Ship.{Ship}
 use Rattle.cell_permit.specs.CellPermit.{ship_words, line_of, line_end}
 use Rattle.cell_permit.specs.ReadBack.{record_for}
 use Rattle.tenants.specs.declared.Held.{Held}
 use Rattle.tenants.specs.declared.Setting.{Setting}
-use Rattle.tenants.specs.declared.Asked.TheVariants.{Edition, Refused}
 use Rattle.tenants.specs.Rules.{line_cell, in_time, change_number}
 use Rattle.layout.specs.Layout.{list_in, own_in}
 use Rattle.changing.specs.Changing.{entry, withdrawal, new_days, bytes_after}
@@ -36,27 +36,27 @@ pub record GivesTheSame (s after : List ℕ) (t name : ℕ) : Type 0 where
       → issued_from after register t name expiry level permit room ≡ issued_from s register t name expiry level permit room
 
 -- what is handed in to issue is good: the register, the user permit of a ship, the expiry, the level and the room
-pub record GoodOrder (register permit : List ℕ) (expiry level room hw m : ℕ) : Type 0 where
+pub record GoodOrder (register permit : List ℕ) (expiry level room : ℕ) (ship : Ship) : Type 0 where
   pub registered : is_register register ≡ true
-  pub ship : read_permit register permit ≡ Ship hw m
+  pub read : read_permit register permit ≡ Ok ship
   pub date : is_date expiry ≡ true
   pub low : level ≤ 1
   pub roomy : 76 ≤ room
 
 -- a name gives tenant t this cell: its edition when asked, its line when issued, or 112 where that is too late, and its keys when that line is checked
 pub record GivesCell (s : List ℕ) (t : ℕ) (setting : Setting) (cell : Held) : Type 0 where
-  pub asked : edition_in s t cell.name ≡ Edition cell.edition
-  pub issued : (register permit : List ℕ) (expiry level room hw m : ℕ) → GoodOrder register permit expiry level room hw m
+  pub asked : edition_in s t cell.name ≡ Ok cell.edition
+  pub issued : (register permit : List ℕ) (expiry level room : ℕ) (ship : Ship) → GoodOrder register permit expiry level room ship
       → issued_from s register t cell.name expiry level permit room
-      ≡ demand (in_time cell expiry) (refusal 112) (text (line_of (ship_words hw) (line_cell setting cell expiry level) ++ line_end))
+      ≡ demand (in_time cell expiry) (refusal 112) (text (line_of (ship_words ship.hw_id) (line_cell setting cell expiry level) ++ line_end))
   pub checked : (expiry level hw today : ℕ) → is_date expiry ≡ true → level ≤ 1 → is_hw_id hw ≡ true → is_date today ≡ true
       → checked_by s t hw today (line_of (ship_words hw) (line_cell setting cell expiry level))
       ≡ record_for today setting.days (line_cell setting cell expiry level)
 
 -- a name gives tenant t nothing: it is not held
 pub record GivesNothing (s : List ℕ) (t name : ℕ) : Type 0 where
-  pub asked : edition_in s t name ≡ Refused 104
-  pub issued : (register permit : List ℕ) (expiry level room hw m : ℕ) → GoodOrder register permit expiry level room hw m
+  pub asked : edition_in s t name ≡ refused 104
+  pub issued : (register permit : List ℕ) (expiry level room : ℕ) (ship : Ship) → GoodOrder register permit expiry level room ship
       → issued_from s register t name expiry level permit room ≡ refusal 104
 
 -- a call changed what is held under a name: whoever reads tenant t's list, t itself and its branches, is given what then holds of that name,

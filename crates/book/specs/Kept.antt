@@ -1,12 +1,12 @@
 -- What the book promises of one call: undamaged stays undamaged, others are not touched but branches by their principal, a refusal changes nothing,
 -- what is issued reads back.
-use Rattle.std.specs.Prelude.{◌≡◌, true, List, ◌++◌, ℕ, ◌≤◌}
+use Rattle.std.specs.Prelude.{◌≡◌, true, List, ◌++◌, ℕ, ◌≤◌, Ok}
 use Rattle.std.proofs.Math.Option.{some}
 use Rattle.dates.specs.Calendar.{is_date}
 use Rattle.forms.specs.Output.{text}
 use Rattle.user_permit.specs.Register.{is_register}
 use Rattle.user_permit.specs.UserPermit.{read_permit}
-use Rattle.user_permit.specs.declared.UserPermit.TheVariants.{Ship}
+use Rattle.user_permit.specs.declared.Ship.{Ship}
 use Rattle.cell_permit.specs.CellPermit.{ship_words, line_of, line_end}
 use Rattle.cell_permit.specs.ReadBack.{record_for}
 use Rattle.tenants.specs.declared.Held.{Held}
@@ -48,11 +48,11 @@ RefusalLeaves = (s : List ℕ) (t : ℕ) (call : Call) → (answer_number (answe
 -- answers that cell with the notice of its own days
 abbrev pub IssuedReadsBack : Type 0
 IssuedReadsBack =
-    (s register permit : List ℕ) (t name expiry level room hw m today : ℕ) (cell : Held)
-    → is_book s ≡ true → is_tenant t ≡ true → is_register register ≡ true → read_permit register permit ≡ Ship hw m
+    (s register permit : List ℕ) (t name expiry level room today : ℕ) (ship : Ship) (cell : Held)
+    → is_book s ≡ true → is_tenant t ≡ true → is_register register ≡ true → read_permit register permit ≡ Ok ship
     → cell_of name (own_in s t).cells ≡ some cell → is_date expiry ≡ true → in_time cell expiry ≡ true → level ≤ 1 → 76 ≤ room → is_date today ≡ true
     → (cell.name ≡ name)
     × ((issued_from s register t name expiry level permit room
-    ≡ text (line_of (ship_words hw) (line_cell (own_in s t).setting cell expiry level) ++ line_end))
-    × (checked_by s t hw today (line_of (ship_words hw) (line_cell (own_in s t).setting cell expiry level))
+    ≡ text (line_of (ship_words ship.hw_id) (line_cell (own_in s t).setting cell expiry level) ++ line_end))
+    × (checked_by s t ship.hw_id today (line_of (ship_words ship.hw_id) (line_cell (own_in s t).setting cell expiry level))
     ≡ record_for today (own_in s t).setting.days (line_cell (own_in s t).setting cell expiry level)))

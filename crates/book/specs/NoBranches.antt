@@ -1,9 +1,8 @@
 -- What the book promised before there were branches still holds, word for word, of a book in which no tenant is one.
-use Rattle.std.specs.Prelude.{◌≡◌, true, List, ℕ, ◌≤◌, ◌<◌, length}
+use Rattle.std.specs.Prelude.{◌≡◌, true, List, ℕ, ◌≤◌, ◌<◌, length, Ok}
 use Rattle.std.proofs.Math.Option.{none, some}
 use Rattle.forms.specs.Identifiers.{is_producer}
 use Rattle.tenants.specs.declared.Held.{Held}
-use Rattle.tenants.specs.declared.Holding.TheVariants.{Any}
 use Rattle.tenants.specs.Cells.{cell_of}
 use Rattle.tenants.specs.Rules.{enters, refuses, change_number, is_tenant, is_held, names_none}
 use Rattle.tenants.specs.Calls.{Call}
@@ -40,7 +39,7 @@ pub record AsBefore (s : List ℕ) : Type 0 where
   pub held_replaced : (t : ℕ) (cell old : Held) → is_tenant t ≡ true → is_held cell ≡ true → cell_of cell.name (own_in s t).cells ≡ some old
       → entry s t cell ≡ enters cell
   pub as_every_record : (t producer : ℕ) → is_tenant t ≡ true → is_producer producer ≡ true
-      → holding_in s t producer ≡ Any (any_record t producer (book_of s).records)
+      → holding_in s t producer ≡ Ok (any_record t producer (book_of s).records)
 
 -- where no tenant is a branch they hold
 abbrev pub OldPromises : Type 0

@@ -1,8 +1,6 @@
 -- What the book promises of the question for a producer: it is answered by every record, and as the editions of the producer's cells are.
-use Rattle.std.specs.Prelude.{◌≡◌, ◌↔◌, Bool, true, false, ◌&&◌, ◌||◌, List, [], ◌∷◌, ℕ, eqb}
+use Rattle.std.specs.Prelude.{◌≡◌, ◌↔◌, Bool, true, false, ◌&&◌, ◌||◌, List, [], ◌∷◌, ℕ, eqb, Ok}
 use Rattle.forms.specs.Identifiers.{is_producer}
-use Rattle.tenants.specs.declared.Asked.TheVariants.{Edition}
-use Rattle.tenants.specs.declared.Holding.TheVariants.{Any}
 use Rattle.tenants.specs.Cells.{producer_of}
 use Rattle.tenants.specs.Rules.{is_tenant}
 use Rattle.tenants.specs.Together.{BookRecord, tenant_of, name_of}
@@ -18,10 +16,10 @@ any_record t producer (r ∷ records) = (eqb (tenant_of r) t && eqb (producer_of
 abbrev pub AsEveryRecord : Type 0
 AsEveryRecord =
     (s : List ℕ) (t producer : ℕ) → is_book s ≡ true → is_tenant t ≡ true → is_producer producer ≡ true
-    → holding_in s t producer ≡ Any (any_record (list_in s t) producer (book_of s).records)
+    → holding_in s t producer ≡ Ok (any_record (list_in s t) producer (book_of s).records)
 
 -- on any book it is yes exactly where asking gives an edition for some name that begins with the two characters
 abbrev pub AsEditions : Type 0
 AsEditions =
     (s : List ℕ) (t producer : ℕ)
-    → (holding_in s t producer ≡ Any true) ↔ ((name : ℕ) × (e : ℕ) × (producer_of name ≡ producer) × (edition_in s t name ≡ Edition e))
+    → (holding_in s t producer ≡ Ok true) ↔ ((name : ℕ) × (e : ℕ) × (producer_of name ≡ producer) × (edition_in s t name ≡ Ok e))

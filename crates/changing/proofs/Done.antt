@@ -1,16 +1,19 @@
 -- What the calls do where the search has told the name's place: the answer and the bytes that the rules give.
 -- Assumes nothing.
 use mathlib.Core.Path.{◌≡◌, refl, sym, ap, ◌∙◌}
-use mathlib.Core.Bool.{true}
+use mathlib.Core.Bool.{Bool, true}
 use mathlib.Core.List.{List}
 use Prim.Native.Nat.{ℕ, ◌+◌, ◌-◌, ◌≤◌, ◌<◌}
 use native.Mathlib.Omega.{arith}
 use lib.ListN.{length, set}
+use Rattle.std.specs.Prelude.{Result, Ok, ⊤}
 use Rattle.dates.specs.Notice.{is_days}
 use Rattle.forms.specs.Identifiers.{is_cell_name}
+use Rattle.forms.specs.Refusals.{refused, done_or}
+use Rattle.forms.specs.declared.refusals.Refusal.{Refusal}
 use Rattle.tenants.specs.declared.Held.{Held}
 use Rattle.tenants.specs.declared.Setting.{Setting}
-use Rattle.tenants.specs.Rules.{enters, withdraws, sets, change_number, is_held, names_none}
+use Rattle.tenants.specs.Rules.{Change, enters, withdraws, sets, change_number, is_held, names_none}
 use Rattle.tenants.specs.Calls.{enter}
 use Rattle.tenants.specs.Together.{in_book, own_of, changed, is_good}
 use Rattle.tenants.specs.House.{later_in, moved_by}
@@ -19,25 +22,28 @@ use Rattle.tenants.proofs.KeptGood.{good_after}
 use Rattle.tenants.proofs.Later.{replaced_moves_none, new_moves_later}
 use Rattle.tenants.proofs.Ranges.{tenant_is, days_below, name_below, held_below}
 use Rattle.tenants.proofs.Room.{has_place}
-use Rattle.layout.specs.Layout.{two, setting_at, setting_place, record_count, book_bytes, book_of, is_book, own_in}
+use Rattle.layout.specs.Layout.{two, setting_at, setting_place, record_count, book_bytes, book_of, is_book, list_in, own_in}
 use Rattle.layout.proofs.Indexed.{book_count, own_setting}
 use Rattle.layout.proofs.Fits.{book_fits}
 use Rattle.layout.proofs.ReadBack.{count-back}
 use Rattle.layout.proofs.Frame.{book_frame}
 use Rattle.layout.proofs.Promises.{good, undamaged_says}
 use Rattle.records.specs.declared.finding.Found.TheVariants.{At, Absent}
-use Rattle.records.specs.Finding.{searched_under, searched_for}
+use Rattle.judging.specs.declared.Records.{Records}
+use Rattle.records.specs.Finding.{searched, searched_under, searched_for}
 use Rattle.records.specs.Moves.{record_put, record_inserted, record_removed}
-use Rattle.records.proofs.OwnFound.{finds_held, finds_none}
+use Rattle.records.proofs.OwnFound.{finds_held, finds_none, found_within}
+use Rattle.records.proofs.OwnPart.{counts_held}
 use Rattle.records.proofs.Changes.{replaces, inserts, removes}
 use Rattle.records.proofs.Later.{later_entered, later_withdrawn}
-use Rattle.changing.specs.declared.house.Moved.TheVariants.{Done, Refused}
-use Rattle.changing.specs.Changing.{entry, withdrawal, new_days}
+use Rattle.changing.specs.Changing.{admitted, entry, withdrawal, new_days}
 use Rattle.changing.specs.House.{house_answer}
 use Rattle.changing.proofs.Days.{byte_put, sets_days}
 use Rattle.changing.proofs.ChangeRules.{
+  Admitted,
+  admitted_so,
   Does,
-  refused,
+  refused_so,
   does_same,
   entry-rule,
   entry-full,
@@ -47,6 +53,10 @@ use Rattle.changing.proofs.ChangeRules.{
   withdrawal-held,
   days-fit,
 }
+
+-- what setting days answers to a change
+abbrev pub day_answer : Change → Result ⊤ Refusal
+day_answer change = done_or (change_number change)
 
 module _ (s : List ℕ) (undamaged : is_book s ≡ true) (t : ℕ) (tenant : t ≤ 15) where
   quota_is : (own_in s t).setting.quota ≡ (setting_at s t).quota
@@ -67,12 +77,12 @@ module _ (s : List ℕ) (undamaged : is_book s ≡ true) (t : ℕ) (tenant : t �
     room-for room = omega (arith, book_count s, has_place (book_of s) (good s undamaged) t (omega arith) (rw own_is at room))
 
   module _ (cell : Held) (fit : is_held cell ≡ true) (keeps : names_none (own_in s t).setting ≡ true) (i : ℕ) where
-    pub entered-held : searched_for s t cell.name ≡ At i → Does (house_answer t s) t s (entry s t cell) (Done 0) (record_put i (in_book t cell) s)
+    pub entered-held : searched_for s t cell.name ≡ At i → Does (house_answer t s) t s (entry s t cell) (Ok 0) (record_put i (in_book t cell) s)
     entered-held found =
         let held = finds_held s t cell.name i undamaged (held_below cell fit) found in
-        does_same (house_answer t s) t s (entry s t cell) (enters cell) (Done 0) _
+        does_same (house_answer t s) t s (entry s t cell) (enters cell) (Ok 0) _
         (entry-held s t cell undamaged (tenant_is t tenant) fit keeps _ held)
-        (ap Done (sym (replaced_moves_none t cell (book_of s) _ held)), replaces s t cell i undamaged (held_below cell fit) (under keeps cell.name ∙ found))
+        (ap Ok (sym (replaced_moves_none t cell (book_of s) _ held)), replaces s t cell i undamaged (held_below cell fit) (under keeps cell.name ∙ found))
 
     module _ (found : searched_for s t cell.name ≡ Absent i) where
       module _ (below : length (own_in s t).cells < (setting_at s t).quota) where
@@ -97,7 +107,7 @@ module _ (s : List ℕ) (undamaged : is_book s ≡ true) (t : ℕ) (tenant : t �
         count-then = ap record_count becomes ∙ count-back two _ (book_fits _ good_then)
 
         -- it has its place among the records then, which are few
-        pub place-then : (i < record_count then) × (record_count then ≤ 512)
+        place-then : (i < record_count then) × (record_count then ≤ 512)
         place-then =
             let later = later_entered s t cell i undamaged (held_below cell fit) (under keeps cell.name ∙ found) in
             (omega (arith, count-then, later), omega (arith, count-then, (book_fits _ good_then).few))
@@ -109,34 +119,93 @@ module _ (s : List ℕ) (undamaged : is_book s ≡ true) (t : ℕ) (tenant : t �
             let after : record_count then - 1 - i ≡ later_in (changed t (enters cell) (book_of s)) t cell.name = omega (arith, count-then, later) in
             after ∙ sym (new_moves_later t cell (book_of s) (finds_none s t cell.name i undamaged (held_below cell fit) found))
 
-        pub entered-new : Does (house_answer t s) t s (entry s t cell) (Done (record_count then - 1 - i)) then
+        entered-new : Does (house_answer t s) t s (entry s t cell) (Ok (record_count then - 1 - i)) then
         entered-new =
-            does_same (house_answer t s) t s (entry s t cell) (enters cell) _ then enters_it (ap Done after-it, becomes)
+            does_same (house_answer t s) t s (entry s t cell) (enters cell) _ then enters_it (ap Ok after-it, becomes)
 
-      pub quota-used : (setting_at s t).quota ≤ length (own_in s t).cells → Does (house_answer t s) t s (entry s t cell) (Refused 105) s
+      quota-used : (setting_at s t).quota ≤ length (own_in s t).cells → Does (house_answer t s) t s (entry s t cell) (refused 105) s
       quota-used full =
-          refused (house_answer t s) t s (entry s t cell) 105
+          refused_so (house_answer t s) t s (entry s t cell) 105
           (entry-full s t cell undamaged (tenant_is t tenant) fit keeps (finds_none s t cell.name i undamaged (held_below cell fit) found)
           (omega (arith, quota_is)))
 
+      -- by the quota that was read, the cells that are held, and the records that are counted afterwards
+      module _ (x : Setting) (held : ℕ) (read : x ≡ setting_at s t) (holds : held ≡ length (own_in s t).cells) where
+        module _ (below : held < x.quota) (after : List ℕ) (n : ℕ) (is : after ≡ record_inserted i (in_book t cell) s) (counted : n ≡ record_count after) where
+          has_room : length (own_in s t).cells < (setting_at s t).quota
+          has_room = omega (arith, ap (λ (x : Setting). x.quota) read)
+
+          pub new_within : (i < n) × (n ≤ 512)
+          new_within = rw (counted, is) (place-then has_room)
+
+          pub new_entered : Does (house_answer t s) t s (entry s t cell) (Ok (n - 1 - i)) after
+          new_entered = rw (counted, is) (entered-new has_room)
+
+        pub new_refused : x.quota ≤ held → Does (house_answer t s) t s (entry s t cell) (refused 105) s
+        new_refused full = quota-used (omega (arith, ap (λ (x : Setting). x.quota) read))
+
   module _ (name : ℕ) (fit : is_cell_name name ≡ true) (keeps : names_none (own_in s t).setting ≡ true) (i : ℕ) where
-    pub not_held : searched_for s t name ≡ Absent i → Does (house_answer t s) t s (withdrawal s t name) (Refused 104) s
+    pub not_held : searched_for s t name ≡ Absent i → Does (house_answer t s) t s (withdrawal s t name) (refused 104) s
     not_held found =
-        refused (house_answer t s) t s (withdrawal s t name) 104
+        refused_so (house_answer t s) t s (withdrawal s t name) 104
         (withdrawal-absent s t name undamaged (tenant_is t tenant) fit keeps (finds_none s t name i undamaged (name_below name fit) found))
 
-    pub withdrawn-held : searched_for s t name ≡ At i → Does (house_answer t s) t s (withdrawal s t name) (Done (record_count s - 1 - i)) (record_removed i s)
+    pub withdrawn-held : searched_for s t name ≡ At i → Does (house_answer t s) t s (withdrawal s t name) (Ok (record_count s - 1 - i)) (record_removed i s)
     withdrawn-held found =
         let after-it : record_count s - 1 - i ≡ moved_by t (withdraws name) (book_of s) =
         omega (arith, later_withdrawn s t name i undamaged (name_below name fit) (under keeps name ∙ found)) in
-        does_same (house_answer t s) t s (withdrawal s t name) (withdraws name) (Done (record_count s - 1 - i)) _
+        does_same (house_answer t s) t s (withdrawal s t name) (withdraws name) (Ok (record_count s - 1 - i)) _
         (withdrawal-held s t name undamaged (tenant_is t tenant) fit keeps _ (finds_held s t name i undamaged (name_below name fit) found))
-        (ap Done after-it, removes s t name i undamaged (name_below name fit) (under keeps name ∙ found))
+        (ap Ok after-it, removes s t name i undamaged (name_below name fit) (under keeps name ∙ found))
 
-  pub days_set : (days : ℕ) → is_days days ≡ true → Does change_number t s (new_days s t days) 0 (set s (setting_place t + 2) days)
+  pub days_set : (days : ℕ) → is_days days ≡ true → Does day_answer t s (new_days s t days) (Ok tt) (set s (setting_place t + 2) days)
   days_set days fit =
-      does_same change_number t s (new_days s t days) (sets days) 0 _ (days-fit s t days undamaged (tenant_is t tenant) fit) (
+      does_same day_answer t s (new_days s t days) (sets days) (Ok tt) _ (days-fit s t days undamaged (tenant_is t tenant) fit) (
         refl,
         byte_put (setting_place t + 2) days s (days_below days fit) (omega (arith, (book_frame s undamaged).size))
             ∙ sets_days s undamaged t days (omega arith),
       )
+
+-- a call that is admitted, and what the search then finds, among the tenant's own
+module _ (s : List ℕ) (t : ℕ) (fits : Bool) (r : Records) (so : admitted s t fits ≡ Ok r) where
+  now : Admitted s t fits r
+  now = admitted_so s t fits r so
+
+  told : (name : ℕ) → searched s r.first r.past name ≡ searched_for s t name
+  told name = ap (λ (r : Records). searched s r.first r.past name) now.stand
+
+  -- from where its records begin to where they end they are its cells
+  pub own_count : r.past ≡ r.first + length (own_in s t).cells
+  own_count = ap (λ (r : Records). r.past) now.stand ∙ counts_held s t ∙ ap (λ (r : Records). r.first + length (own_in s t).cells) (sym now.stand)
+
+  module _ (cell : Held) (same : fits ≡ is_held cell) where
+    fits-held : is_held cell ≡ true
+    fits-held = sym same ∙ now.fit
+
+    pub enter_bound : (t ≤ 15) × ((is_held cell ≡ true) × (names_none (own_in s t).setting ≡ true))
+    enter_bound = (now.tenant, (fits-held, now.keeps))
+
+    pub enter_undamaged : is_book s ≡ true
+    enter_undamaged = now.undamaged
+
+    pub enter_absent : (i : ℕ) → searched s r.first r.past cell.name ≡ Absent i → searched_for s t cell.name ≡ Absent i
+    enter_absent i found = sym (told cell.name) ∙ found
+
+    pub enter_held : (i : ℕ) → searched s r.first r.past cell.name ≡ At i → Does (house_answer t s) t s (entry s t cell) (Ok 0) (record_put i (in_book t cell) s)
+    enter_held i found = entered-held s now.undamaged t now.tenant cell fits-held now.keeps i (sym (told cell.name) ∙ found)
+
+  module _ (name : ℕ) (same : fits ≡ is_cell_name name) (i : ℕ) where
+    fits_name : is_cell_name name ≡ true
+    fits_name = sym same ∙ now.fit
+
+    pub withdraw_absent : searched s r.first r.past name ≡ Absent i → Does (house_answer t s) t s (withdrawal s t name) (refused 104) s
+    withdraw_absent found = not_held s now.undamaged t now.tenant name fits_name now.keeps i (sym (told name) ∙ found)
+
+    -- the record is one of those that are counted
+    pub withdraw_within : searched s r.first r.past name ≡ At i → (i < record_count s) × (record_count s ≤ 512)
+    withdraw_within found =
+        (found_within s now.undamaged (list_in s t) name i (name_below name fits_name) (sym (told name) ∙ found), (book_frame s now.undamaged).few)
+
+    pub withdraw_held : searched s r.first r.past name ≡ At i
+        → Does (house_answer t s) t s (withdrawal s t name) (Ok (record_count s - 1 - i)) (record_removed i s)
+    withdraw_held found = withdrawn-held s now.undamaged t now.tenant name fits_name now.keeps i (sym (told name) ∙ found)

@@ -1,15 +1,28 @@
 -- The calls that change the book, on its bytes: a damaged book is 101, and else the rules decide, by what is the tenant's own.
-use Rattle.std.specs.Prelude.{Bool, List, ℕ}
+use Rattle.std.specs.Prelude.{Bool, List, ℕ, Result, Ok}
 use Rattle.forms.specs.Order.{demand}
+use Rattle.forms.specs.Refusals.{refused}
+use Rattle.forms.specs.declared.refusals.Refusal.{Refusal}
 use Rattle.tenants.specs.declared.Held.{Held}
-use Rattle.tenants.specs.declared.Setting.{Setting}
-use Rattle.tenants.specs.Rules.{Change, enters, withdraws, sets, nothing, refuses, names_none, entering, withdrawing, setting_days}
+use Rattle.tenants.specs.Rules.{Change, enters, withdraws, sets, nothing, refuses, is_tenant, names_none, entering, withdrawing, setting_days}
 use Rattle.tenants.specs.Together.{changed}
-use Rattle.layout.specs.Layout.{book_bytes, book_of, is_book, own_in}
+use Rattle.layout.specs.Layout.{book_bytes, book_of, is_book, list_in, own_in}
+use Rattle.judging.specs.Starts.{first_in, past_in}
+use Rattle.judging.specs.declared.Records.{Records}
 
--- what enter and withdraw are refused with before the cells are asked for: 103 where what was given does not fit, then 111 for a branch; 0 for neither
-abbrev pub barred_by : Bool → Setting → ℕ
-barred_by fits setting = demand fits 103 (demand (names_none setting) 111 0)
+-- where the records stand that tenant t reads
+abbrev pub records_in : List ℕ → ℕ → Records
+records_in s t = record { first = first_in s (list_in s t); past = past_in s (list_in s t) }
+
+-- what enter and withdraw are refused with before the cells are asked for, 103 where what was given does not fit, and 111 for a branch; else where
+-- the records stand that the tenant reads
+unfoldable pub admitted : List ℕ → ℕ → Bool → Result Records Refusal
+admitted s t fits =
+    demand (is_book s) (refused 101)
+    (demand (is_tenant t) (refused 102)
+    (demand fits (refused 103)
+    (demand (names_none (own_in s t).setting) (refused 111)
+    (Ok (records_in s t)))))
 
 -- enter a cell: what it does, or the refusal
 unfoldable pub entry : List ℕ → ℕ → Held → Change

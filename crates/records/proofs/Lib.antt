@@ -5,7 +5,6 @@ pub mod RecordParts
 pub mod OwnPart
 pub mod Searching
 pub mod OwnFound
-pub mod Shifts
 pub mod Writes
 pub mod Around
 pub mod Rewritten

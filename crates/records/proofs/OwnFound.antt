@@ -58,8 +58,8 @@ module _ (s : List ℕ) (undamaged : is_book s ≡ true) (t name i : ℕ) (small
     no_cell = cell_absent t name small (book_of s).records gone.absent
 
 pub searches_own : SearchesOwn
-searches_own s t name first past so =
-    let places = (judged_says s (list_in s t) first past so).1 in
+searches_own s t name r so =
+    let places = (judged_says s (list_in s t) r so).1 in
     ap₂ (λ (i j : ℕ). searched s i j name) places.0 places.1
 
 pub finds_held : FindsHeld

@@ -5,7 +5,7 @@ use mathlib.Core.Bool.{Bool, true, false, cond, ◌&&◌}
 use mathlib.Core.List.{List}
 use Prim.Native.Nat.{ℕ, zero, suc, ◌+◌, ◌-◌, ◌/◌, ◌≤◌, ◌<◌}
 use native.Mathlib.Omega.{arith}
-use borrow.Author.Tests.{le-leb, lt-leb, ltb-true, ltb-false, eqb-true, eqb-false, lt-ltb, le-ltb, eq-eqb, ne_eqb}
+use borrow.Author.Tests.{le-leb, ltb-true, ltb-false, eqb-true, eqb-false, lt-ltb, le-ltb, eq-eqb, ne_eqb}
 use lib.Dec.{ltb, eqb}
 use lib.ListN.{length, get_or}
 use Rattle.octets.specs.Numbers.{Below}
@@ -18,7 +18,7 @@ use Rattle.layout.proofs.Frame.{book_frame}
 use Rattle.layout.proofs.Indexed.{book_count}
 use Rattle.layout.proofs.Promises.{good}
 use Rattle.records.specs.declared.finding.Found.TheVariants.{At, Absent}
-use Rattle.records.specs.Finding.{name_at, halved, place_in, found_at, searched, searched_under}
+use Rattle.records.specs.Finding.{name_at, halved, place_in, searched, searched_under}
 use Rattle.records.proofs.Found.{place_of, found_in}
 use Rattle.records.proofs.Halving.{place_after_lem, place_up_to, held_there}
 use Rattle.records.proofs.OwnPart.{past-within, own_name, past-above, place-from, place-upto}
@@ -71,28 +71,25 @@ module _ (at : ℕ → ℕ) (name : ℕ) where
       let done : high ≤ low = ltb-false low high no in
       halved_done (suc times) low high done ∙ sym (halved_done (suc others) low high done))
 
--- what is left is from low to high, no higher than past, in four bytes each, and to halve it ends at the place
+-- what is left is from low, in four bytes, to high, no higher than past, and to halve it ends at the place
 pub record Left (s : List ℕ) (first past name low high : ℕ) : Type 0 where
   pub low_fits : low < 4294967296
-  pub high_fits : high < 4294967296
   pub most : high ≤ past
   pub ends : (times : ℕ) → high - low ≤ times → halved (name_at s) name times low high ≡ place_in s first past name
 
 module _ (s : List ℕ) (first past name : ℕ) where
-  pub all_left : first < 4294967296 → past < 4294967296 → Left s first past name first past
+  pub all_left : first < 4294967296 → Left s first past name first past
   unfolding place_in
-  all_left a b = record {
+  all_left a = record {
     low_fits = a;
-    high_fits = b;
     most = omega arith;
     ends = λ times h. more_times (name_at s) name times (past - first) first past h (omega arith);
   }
 
   module _ (low high : ℕ) (so_far : Left s first past name low high) where
-    pub left_up : low < high → name_at s ((low + high) / 2) < name → Left s first past name ((low + high) / 2 + 1) high
-    left_up left lower = record {
-      low_fits = omega (arith, so_far.high_fits);
-      high_fits = so_far.high_fits;
+    pub left_up : low < high → high < 4294967296 → name_at s ((low + high) / 2) < name → Left s first past name ((low + high) / 2 + 1) high
+    left_up left small lower = record {
+      low_fits = omega arith;
       most = so_far.most;
       ends = λ times h.
           more_times (name_at s) name times (high - low) ((low + high) / 2 + 1) high h (omega arith)
@@ -103,7 +100,6 @@ module _ (s : List ℕ) (first past name : ℕ) where
     pub left_down : low < high → name ≤ name_at s ((low + high) / 2) → Left s first past name low ((low + high) / 2)
     left_down left upper = record {
       low_fits = so_far.low_fits;
-      high_fits = omega (arith, so_far.high_fits);
       most = omega (arith, so_far.most);
       ends = λ times h.
           more_times (name_at s) name times (high - low) low ((low + high) / 2) h (omega arith)
@@ -113,34 +109,6 @@ module _ (s : List ℕ) (first past name : ℕ) where
 
     pub none_left : high ≤ low → low ≡ place_in s first past name
     none_left done = sym (halved_done (name_at s) name 0 low high done) ∙ so_far.ends 0 (omega arith)
-
-  pub found_beyond : length s < used_length past → Absent first ≡ searched s first past name
-  unfolding searched
-  found_beyond short = sym (rw (lt-leb (used_length past) (length s) short))
-
-  -- the search's answers, by what stands at the place
-  module _ (within : used_length past ≤ length s) (i : ℕ) (ended : i ≡ place_in s first past name) where
-    is-searched : found_at s past name i ≡ searched s first past name
-    unfolding searched
-    is-searched = ap (found_at s past name) ended ∙ sym (rw (le-leb (used_length past) (length s) within))
-
-    pub found-this : i < past → name_at s i ≡ name → At i ≡ searched s first past name
-    found-this inside this = found ∙ is-searched
-      where
-        found : At i ≡ found_at s past name i
-        found = rw (lt-ltb i past inside, eq-eqb (name_at s i) name this)
-
-    pub found-other : i < past → (name_at s i ≡ name → ⊥) → Absent i ≡ searched s first past name
-    found-other inside other = found ∙ is-searched
-      where
-        found : Absent i ≡ found_at s past name i
-        found = rw (lt-ltb i past inside, ne_eqb (name_at s i) name other)
-
-    pub found-end : past ≤ i → Absent i ≡ searched s first past name
-    found-end end = found ∙ is-searched
-      where
-        found : Absent i ≡ found_at s past name i
-        found = rw (le-ltb i past end)
 
 module _ (s : List ℕ) (undamaged : is_book s ≡ true) (t name : ℕ) (small : name < names) where
   -- the place of the tenant's name among the records

@@ -2,8 +2,8 @@
 -- Assumes nothing.
 use mathlib.Core.Path.{◌≡◌, sym, ap, ap₂, ◌∙◌}
 use mathlib.Core.List.{List, [], ◌∷◌, ◌++◌}
-use Prim.Native.Nat.{ℕ, suc, ◌+◌, ◌*◌, ◌/◌, ◌%◌, ◌^◌, ◌≤◌, ◌<◌}
-use native.Mathlib.Nat.{div-one, mul-add-mod_self_right}
+use Prim.Native.Nat.{ℕ, suc, ◌+◌, ◌*◌, ◌%◌, ◌^◌, ◌≤◌, ◌<◌}
+use native.Mathlib.Nat.{mul-add-mod_self_right}
 use native.Mathlib.Omega.{arith}
 use lib.Arith.{digits_div}
 use lib.ListN.{length, length-append}
@@ -12,7 +12,6 @@ use Rattle.octets.proofs.Digits.{digits_of_low}
 use Rattle.text.specs.Texts.{placed}
 use Rattle.text.proofs.PlacedTexts.{length-placed, placed-next}
 use Rattle.tenants.specs.Together.{full_name}
-use Rattle.layout.specs.Layout.{zeros}
 
 -- a digit in front of n lower ones
 digit_in_front : (b n d x : ℕ) → x < b ^ n → 0 < b → digits b (suc n) (d * b ^ n + x) ≡ d % b ∷ digits b n x
@@ -26,12 +25,6 @@ digit_in_front b n d x g some =
 
 pub full_name_bytes : (t name : ℕ) → name < 256 ^ 8 → (t % 256 ∷ []) ++ bytes_of 8 name ≡ bytes_of 9 (full_name t name)
 full_name_bytes t name small = sym (digit_in_front 256 8 t name small (omega arith))
-
--- three zeros and a last expiry, byte by byte
-pub ending_bytes : (last : ℕ)
-    → 0 ∷ 0 ∷ 0 ∷ last / 16777216 % 256 ∷ last / 65536 % 256 ∷ last / 256 % 256 ∷ last % 256 ∷ [] ≡ zeros 3 ++ bytes_of 4 last
-unfolding digits
-ending_bytes last = sym (rw (div-one last))
 
 -- a text is put, and another where it ends
 module _ (at n : ℕ) (a b s s₁ s₂ : List ℕ) (first : s₁ ≡ placed at a s) (next : s₂ ≡ placed n b s₁) where

@@ -1,13 +1,13 @@
 -- The search's words: the name at each record, the place that halving ends at, and what is found there. They say it of any bytes; of an
 -- undamaged book they say what a tenant holds (`FindsHeld`, `FindsNone`, `CountsHeld`).
-use Rattle.std.specs.Prelude.{◌≡◌, true, cond, ◌&&◌, List, ℕ, zero, suc, ◌+◌, ◌-◌, ◌/◌, ◌<◌, leb, ltb, eqb, length}
+use Rattle.std.specs.Prelude.{◌≡◌, true, cond, ◌&&◌, List, ℕ, zero, suc, ◌+◌, ◌-◌, ◌/◌, ◌<◌, leb, ltb, eqb, length, Some}
 use Rattle.std.proofs.Math.Option.{none, some}
 use Rattle.octets.specs.Places.{number_at}
 use Rattle.tenants.specs.Cells.{cell_of}
 use Rattle.tenants.specs.Together.{names, cell_in}
 use Rattle.layout.specs.Layout.{used_length, record_place, record_at, is_book, list_in, own_in}
 use Rattle.judging.specs.Starts.{first_in, past_in, judged}
-use Rattle.judging.specs.declared.Judged.TheVariants.{Records}
+use Rattle.judging.specs.declared.Records.{Records}
 use Rattle.records.specs.declared.finding.Found.{Found}
 use Rattle.records.specs.declared.finding.Found.TheVariants.{At, Absent}
 
@@ -47,7 +47,7 @@ searched_for s t name = searched_under s (list_in s t) name
 
 -- which is where judging the book for the tenant says that they stand
 abbrev pub SearchesOwn : Type 0
-SearchesOwn = (s : List ℕ) (t name first past : ℕ) → judged s t ≡ Records first past → searched s first past name ≡ searched_for s t name
+SearchesOwn = (s : List ℕ) (t name : ℕ) (r : Records) → judged s t ≡ Some r → searched s r.first r.past name ≡ searched_for s t name
 
 -- of an undamaged book: the record that is found is the cell of that name among the tenant's own
 abbrev pub FindsHeld : Type 0

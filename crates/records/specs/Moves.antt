@@ -15,10 +15,6 @@ use Rattle.records.specs.Finding.{searched_under}
 abbrev pub moved_up : ℕ → ℕ → List ℕ → List ℕ
 moved_up k n p = take k p ++ (take n p ++ drop (n + k) p)
 
--- p with the n bytes after its first k moved down over those
-abbrev pub moved_down : ℕ → ℕ → List ℕ → List ℕ
-moved_down k n p = take n (drop k p) ++ drop n p
-
 -- p without its first k bytes: the n after them are moved down, and k zeros follow
 abbrev pub first_removed : ℕ → ℕ → List ℕ → List ℕ
 first_removed k n p = take n (drop k p) ++ (zeros k ++ drop (n + k) p)

@@ -4,6 +4,7 @@ ghost use Rattle.tenants.specs.Together.{cell_in};
 ghost use Rattle.layout.specs.Layout.{record_size, used_length, record_place, record_at};
 ghost use Rattle.records.specs.Finding.{name_at, place_in, searched};
 
+use judging::Records;
 use layout::{RECORD_SIZE, RECORDS_PLACE};
 use octets::numbers::{number16, number32, number40, number64};
 use tenants::Held;
@@ -24,13 +25,14 @@ fn name_at(book: &[u8], i: usize) -> u64
     number64(&book[at..at + RECORD_SIZE], 1)
 }
 
-// Where the search for a name ends: what is left is halved until nothing is.
-fn place_of(book: &[u8], first: u32, past: u32, name: u64) -> u32
-    requires { used_length past ≤ length book.now }
-    ensures { result ≡ place_in book.now first past name }
+// Where the search for a name ends: what is left is halved until nothing is. It ends so in any bytes; the library's search promises a place
+// only where the records stand in order.
+fn place_of(book: &[u8], among: Records, name: u64) -> u32
+    requires { used_length among.past ≤ length book.now }
+    ensures { result ≡ place_in book.now among.first among.past name }
 {
-    let mut low = first as usize;
-    let mut high = past as usize;
+    let mut low = among.first as usize;
+    let mut high = among.past as usize;
     while low < high {
         let middle = (low + high) / 2;
         if name_at(book, middle) < name {
@@ -42,18 +44,17 @@ fn place_of(book: &[u8], first: u32, past: u32, name: u64) -> u32
     low as u32
 }
 
-// The search among the records from first up to past: the record at the name's place has that name, or none has.
-pub fn find(book: &[u8], first: u32, past: u32, name: u64) -> Found
-    ensures { result ≡ searched book.now first past name }
+// The search among some records: the record at the name's place has that name, or none has.
+#[tactic(auto, unfolding(crate::specs::Finding::searched))]
+pub fn find(book: &[u8], among: Records, name: u64) -> Found
+    ensures { result ≡ searched book.now among.first among.past name }
 {
-    if book.len() < RECORDS_PLACE + RECORD_SIZE * past as usize {
-        return Found::Absent(first);
+    if book.len() < RECORDS_PLACE + RECORD_SIZE * among.past as usize {
+        return Found::Absent(among.first);
     }
-    let i = place_of(book, first, past, name);
-    if i < past {
-        if name_at(book, i as usize) == name {
-            return Found::At(i);
-        }
+    let i = place_of(book, among, name);
+    if i < among.past && name_at(book, i as usize) == name {
+        return Found::At(i);
     }
     Found::Absent(i)
 }

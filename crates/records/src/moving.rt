@@ -4,7 +4,7 @@ ghost use Rattle.octets.specs.Numbers.{bytes_of};
 ghost use Rattle.text.specs.Texts.{placed};
 ghost use Rattle.tenants.specs.Together.{full_name, in_book};
 ghost use Rattle.layout.specs.Layout.{record_size, zeros, record_bytes};
-ghost use Rattle.records.specs.Moves.{moved_up, moved_down, first_removed, used_put, record_put, record_inserted, record_removed};
+ghost use Rattle.records.specs.Moves.{moved_up, first_removed, used_put, record_put, record_inserted, record_removed};
 
 use layout::{RECORD_SIZE, RECORDS_PLACE};
 use tenants::Held;
@@ -14,23 +14,7 @@ fn open_gap(part: &mut [u8], n: usize)
     requires { n + record_size ≤ length part.old }
     ensures { part.new ≡ moved_up record_size n part.old }
 {
-    let mut j = n;
-    while 0 < j {
-        part[j + RECORD_SIZE - 1] = part[j - 1];
-        j -= 1;
-    }
-}
-
-// Moves the n bytes after the first record down over it.
-fn move_down(part: &mut [u8], n: usize)
-    requires { n + record_size ≤ length part.old }
-    ensures { part.new ≡ moved_down record_size n part.old }
-{
-    let mut j: usize = 0;
-    while j < n {
-        part[j] = part[j + RECORD_SIZE];
-        j += 1;
-    }
+    part.copy_within(..n, RECORD_SIZE);
 }
 
 // Takes the first record out: the n bytes after it move down, and the room that falls free is zero.
@@ -38,9 +22,8 @@ fn close_gap(part: &mut [u8], n: usize)
     requires { n + record_size ≤ length part.old }
     ensures { part.new ≡ first_removed record_size n part.old }
 {
-    let none = [0u8; RECORD_SIZE];
-    move_down(part, n);
-    text::writing::put_text(part, n, &none);
+    part.copy_within(RECORD_SIZE..RECORD_SIZE + n, 0);
+    part[n..n + RECORD_SIZE].fill(0);
 }
 
 // Writes the full name: the tenant in one byte, and the name.
@@ -54,25 +37,19 @@ fn put_full_name(book: &mut [u8], at: usize, tenant: u32, name: u64)
     text::writing::put_text(book, at + 1, &rest);
 }
 
-// Writes the two keys, three zeros and the last expiry, which fill up a record.
-fn put_keys(book: &mut [u8], at: usize, key1: u64, key2: u64, last: u32)
+// Writes a cell's two keys, three zeros and its last expiry, which fill up a record.
+fn put_keys(book: &mut [u8], at: usize, cell: Held)
     requires { at + 17 ≤ length book.old }
-    ensures { book.new ≡ placed at (bytes_of 5 key1 ++ (bytes_of 5 key2 ++ (zeros 3 ++ bytes_of 4 last))) book.old }
+    ensures { book.new ≡ placed at (bytes_of 5 cell.key1 ++ (bytes_of 5 cell.key2 ++ (zeros 3 ++ bytes_of 4 cell.last))) book.old }
 {
-    let one = octets::numbers::bytes40(key1);
-    let two = octets::numbers::bytes40(key2);
-    let ending = [
-        0u8,
-        0,
-        0,
-        (last / 16777216 % 256) as u8,
-        (last / 65536 % 256) as u8,
-        (last / 256 % 256) as u8,
-        (last % 256) as u8,
-    ];
+    let one = octets::numbers::bytes40(cell.key1);
+    let two = octets::numbers::bytes40(cell.key2);
+    let spare = [0u8; 3];
+    let ending = octets::numbers::bytes32(cell.last);
     text::writing::put_text(book, at, &one);
     text::writing::put_text(book, at + 5, &two);
-    text::writing::put_text(book, at + 10, &ending);
+    text::writing::put_text(book, at + 10, &spare);
+    text::writing::put_text(book, at + 13, &ending);
 }
 
 // Writes the fields of a tenant's cell, one after the other.
@@ -83,7 +60,7 @@ fn put_fields(book: &mut [u8], at: usize, tenant: u32, cell: Held)
     let edition = octets::numbers::bytes16((cell.edition % 65536) as u16);
     put_full_name(book, at, tenant, cell.name);
     text::writing::put_text(book, at + 9, &edition);
-    put_keys(book, at + 11, cell.key1, cell.key2, cell.last);
+    put_keys(book, at + 11, cell);
 }
 
 // Writes a tenant's cell as record i.

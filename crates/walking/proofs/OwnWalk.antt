@@ -145,9 +145,9 @@ module _ (s : List ℕ) (t producer : ℕ) where
 
 pub walks_own : WalksOwn
 unfolding own_of
-walks_own s t producer first past so =
+walks_own s t producer r so =
     let list = list_in s t in
-    let says = judged_says s list first past so in
+    let says = judged_says s list r so in
     ap₂ (λ (i j : ℕ). any_among s i j producer) says.1.0 says.1.1
     ∙ sym (walked-within s (first_in s list) (past_in s list) producer (past-within s list producer says.0))
     ∙ walks-records s list producer says.0

@@ -3,9 +3,10 @@
 use mathlib.Core.Path.{◌≡◌, sym, ap, ◌∙◌}
 use mathlib.Core.Bool.{true, false}
 use mathlib.Core.List.{List}
-use Prim.Native.Nat.{ℕ, suc, ◌-◌, ◌≤◌, ◌<◌}
+use Prim.Native.Nat.{ℕ, suc, ◌+◌, ◌-◌, ◌≤◌, ◌<◌}
+use native.Mathlib.Numerals.{add-one}
 use native.Mathlib.Omega.{arith}
-use borrow.Author.Tests.{lt-leb, le-leb, lt-ltb, le-ltb, eq-eqb, ne_eqb}
+use borrow.Author.Tests.{le-leb, lt-ltb, le-ltb, eq-eqb, ne_eqb}
 use lib.ListN.{length}
 use Rattle.layout.specs.Layout.{used_length}
 use Rattle.walking.specs.Walking.{producer_at, walked, any_among}
@@ -39,20 +40,16 @@ module _ (s : List ℕ) (producer first past i : ℕ) (so_far : Left s producer 
     one_more : past - i ≡ suc (past - suc i)
     one_more = omega arith
 
-    pub left-later : producer < producer_at s i → false ≡ walked s producer first (past - first)
-    left-later later = sym (ap (walked s producer i) one_more ∙ stops_later s producer i (past - suc i) later) ∙ so_far
+    pub left_later : producer < producer_at s i → false ≡ walked s producer first (past - first)
+    left_later later = sym (ap (walked s producer i) one_more ∙ stops_later s producer i (past - suc i) later) ∙ so_far
 
     pub left_there : producer_at s i ≡ producer → true ≡ walked s producer first (past - first)
     left_there there = sym (ap (walked s producer i) one_more ∙ stops_there s producer i (past - suc i) there) ∙ so_far
 
-    pub left-next : producer_at s i < producer → Left s producer first past (suc i)
-    left-next before = sym (ap (walked s producer i) one_more ∙ goes_on s producer i (past - suc i) before) ∙ so_far
+    pub left_next : producer_at s i < producer → Left s producer first past (i + 1)
+    left_next before = rw add-one (sym (ap (walked s producer i) one_more ∙ goes_on s producer i (past - suc i) before) ∙ so_far)
 
 module _ (s : List ℕ) (first past producer : ℕ) where
-  pub none_beyond : length s < used_length past → false ≡ any_among s first past producer
-  unfolding any_among
-  none_beyond short = sym (rw (lt-leb (used_length past) (length s) short))
-
   pub walked-within : used_length past ≤ length s → walked s producer first (past - first) ≡ any_among s first past producer
   unfolding any_among
   walked-within within = sym (rw (le-leb (used_length past) (length s) within))

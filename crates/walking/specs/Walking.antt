@@ -1,11 +1,11 @@
 -- The walk through a book's records for a producer, and where it stops. It says it of any bytes; of an undamaged book it says whether a tenant
 -- holds any cell of the producer (`WalksOwn`).
-use Rattle.std.specs.Prelude.{◌≡◌, Bool, true, false, cond, ◌&&◌, List, ℕ, zero, suc, ◌-◌, leb, ltb, eqb, length}
+use Rattle.std.specs.Prelude.{◌≡◌, Bool, true, false, cond, ◌&&◌, List, ℕ, zero, suc, ◌-◌, leb, ltb, eqb, length, Some}
 use Rattle.tenants.specs.Cells.{producer_of, holds_any}
 use Rattle.tenants.specs.Together.{name_of}
 use Rattle.layout.specs.Layout.{used_length, record_at, own_in}
 use Rattle.judging.specs.Starts.{judged}
-use Rattle.judging.specs.declared.Judged.TheVariants.{Records}
+use Rattle.judging.specs.declared.Records.{Records}
 
 -- the producer of record i
 abbrev pub producer_at : List ℕ → ℕ → ℕ
@@ -24,5 +24,5 @@ any_among s first past producer = leb (used_length past) (length s) && walked s 
 -- where judging the book for a tenant says that its records stand, the walk finds one exactly where among all its cells there is one
 abbrev pub WalksOwn : Type 0
 WalksOwn =
-    (s : List ℕ) (t producer first past : ℕ) → judged s t ≡ Records first past
-    → any_among s first past producer ≡ holds_any producer (own_in s t).cells
+    (s : List ℕ) (t producer : ℕ) (r : Records) → judged s t ≡ Some r
+    → any_among s r.first r.past producer ≡ holds_any producer (own_in s t).cells

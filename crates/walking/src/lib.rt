@@ -5,6 +5,7 @@ ghost use Rattle.std.specs.Prelude.{◌≡◌, ◌+◌, ◌-◌, ◌≤◌, leng
 ghost use Rattle.layout.specs.Layout.{record_size, used_length, record_place};
 ghost use Rattle.walking.specs.Walking.{producer_at, walked, any_among};
 
+use judging::Records;
 use layout::{RECORD_SIZE, RECORDS_PLACE};
 use octets::numbers::number64;
 
@@ -18,30 +19,27 @@ fn producer_at(book: &[u8], i: usize) -> u32
 }
 
 // The walk, which stops at the first record that is later in order than any of the producer, or at the first of these.
-fn walk(book: &[u8], first: u32, past: u32, producer: u32) -> bool
-    requires { used_length past ≤ length book.now }
-    ensures { result ≡ walked book.now producer first (past - first) }
+#[tactic(auto, using(crate::proofs::Stops::left_none, crate::proofs::Stops::left_later, crate::proofs::Stops::left_there, crate::proofs::Stops::left_next))]
+fn walk(book: &[u8], among: Records, producer: u32) -> bool
+    requires { used_length among.past ≤ length book.now }
+    ensures { result ≡ walked book.now producer among.first (among.past - among.first) }
 {
-    let mut i = first as usize;
-    while i < past as usize {
-        let here = producer_at(book, i);
+    for i in among.first..among.past {
+        let here = producer_at(book, i as usize);
         if producer < here {
             return false;
         }
         if here == producer {
             return true;
         }
-        i += 1;
     }
     false
 }
 
-// Whether one of the records from first up to past, which stand in order, is of a producer.
-pub fn any_among(book: &[u8], first: u32, past: u32, producer: u32) -> bool
-    ensures { result ≡ any_among book.now first past producer }
+// Whether one of some records, which stand in order, is of a producer.
+#[tactic(auto, unfolding(crate::specs::Walking::any_among))]
+pub fn any_among(book: &[u8], among: Records, producer: u32) -> bool
+    ensures { result ≡ any_among book.now among.first among.past producer }
 {
-    if book.len() < RECORDS_PLACE + RECORD_SIZE * past as usize {
-        return false;
-    }
-    walk(book, first, past, producer)
+    RECORDS_PLACE + RECORD_SIZE * among.past as usize <= book.len() && walk(book, among, producer)
 }

@@ -1,29 +1,28 @@
--- `asking::ask_edition` meets its contract.
+-- `asking::ask_edition` meets its contract: the cell that the search finds is the tenant's. The check finds the refusals by itself.
 -- Assumes nothing.
-use mathlib.Core.Path.{◌≡◌, sym, ◌∙◌}
-use Rattle.judging.specs.Starts.{judged}
-use Rattle.judging.specs.declared.Judged.TheVariants.{Records}
-use Rattle.judging.proofs.Judgements.{judged_says, judged_damaged}
-use Rattle.records.proofs.OwnFound.{searches_own}
-use Rattle.asking.proofs.AnswerRules.{edition-damaged, edition-ruled}
+use mathlib.Core.Path.{sym, ◌∙◌}
+use borrow.Author.Rules.{rules}
+use Rattle.std.proofs.lemmas.Result.{err_from_is_err_and}
+use Rattle.tenants.proofs.Ranges.{tenant_is}
+use Rattle.asking.proofs.AnswerRules.{judged_undamaged, finds_own, edition_found, edition_refused, edition-ruled, asking-named}
 use Rattle.asking.proofs.ask_edition.Goals as goal
-use Rattle.asking.proofs.ask_edition.Goals.{In-Records, Start}
 
--- what is known once the book is found undamaged
-module _ (e : In-Records) where
-  abbrev start : Start
-  start = (goal.at.In-Records e).Start
-
-  judged_so : judged start.args.book.now start.args.tenant ≡ Records e.in-Records.first e.in-Records.past
-  judged_so = sym e.judge.ensures ∙ e.in-Records.is
-
-pub returns-in_default : goal.returns-in_default
-returns-in_default c = sym (edition-damaged _ _ _ (judged_damaged _ _ (sym c.judge.ensures ∙ c.in_default.is)))
-
-pub edition_in-requires : goal.edition_in-requires
-edition_in-requires c =
-    let so = judged_so (goal.at.edition_in-requires c).In-Records in
-    ((judged_says _ _ _ _ so).0, c.find-found.ensures ∙ searches_own _ _ _ _ _ so)
+pub returns-in_err-cell : goal.returns-in_err-cell
+returns-in_err-cell c =
+    let so = sym c.judge.ensures ∙ c.in-Some.is in
+    let told = sym (c.held.ensures ∙ finds_own _ _ _ _ so (search rules)) ∙ c.in_err-cell.was in
+    let p = err_from_is_err_and c.from_residual.result c.from_residual.ensures.1 in
+    rw (p.1, p.2)
+    (sym
+    (edition-ruled _ _ _ (judged_undamaged _ _ _ so)
+    ∙ asking-named _ _ _ (tenant_is _ c.if-tenant-gt15.false) (sym c.is_cell_name.ensures ∙ c.if-not-is_cell_name.false)
+    ∙ edition_refused _ _ told))
 
 pub returns : goal.returns
-returns c = c.edition_in.ensures ∙ sym (edition-ruled _ _ _ (judged_says _ _ _ _ (judged_so (goal.at.returns c).In-Records)).0)
+returns c =
+    let so = sym c.judge.ensures ∙ c.in-Some.is in
+    let told = sym (c.held.ensures ∙ finds_own _ _ _ _ so (search rules)) ∙ c.in_ok-cell.was in
+    sym
+    (edition-ruled _ _ _ (judged_undamaged _ _ _ so)
+    ∙ asking-named _ _ _ (tenant_is _ c.if-tenant-gt15.false) (sym c.is_cell_name.ensures ∙ c.if-not-is_cell_name.false)
+    ∙ edition_found _ _ told)

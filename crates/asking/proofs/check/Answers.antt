@@ -1,20 +1,22 @@
--- `asking::check` meets its contract.
+-- `asking::check` meets its contract: the days are those of the tenant's own setting. The check finds the refusals by itself.
 -- Assumes nothing.
-use mathlib.Core.Path.{◌≡◌, sym, ◌∙◌}
-use mathlib.Core.Bool.{true}
-use Rattle.layout.specs.Layout.{is_book}
-use Rattle.asking.proofs.AnswerRules.{checked-damaged, checked-ruled}
+use mathlib.Core.Path.{sym, ap, ◌∙◌}
+use Rattle.cell_permit.specs.Line.{read_line}
+use Rattle.tenants.specs.declared.Setting.{Setting}
+use Rattle.tenants.proofs.Ranges.{tenant_is}
+use Rattle.layout.proofs.Indexed.{own_setting}
+use Rattle.asking.proofs.AnswerRules.{checked-line}
+use Rattle.asking.proofs.LineWritten.{set_days_lem}
 use Rattle.asking.proofs.check.Goals as goal
-use Rattle.asking.proofs.check.Goals.{Else-not-is_book}
-
-undamaged : (c : Else-not-is_book) → is_book c.args.book.now ≡ true
-undamaged c = sym c.is_book.ensures ∙ c.if-not-is_book.false
-
-pub returns-then-not-is_book : goal.returns-then-not-is_book
-returns-then-not-is_book c = sym (checked-damaged _ _ _ _ _ (sym c.is_book.ensures ∙ c.if-not-is_book.true))
-
-pub check_by-requires : goal.check_by-requires
-check_by-requires c = undamaged (goal.at.check_by-requires c).Else-not-is_book
 
 pub returns : goal.returns
-returns c = c.check_by.ensures ∙ sym (checked-ruled _ _ _ _ _ (undamaged (goal.at.returns c).Else-not-is_book))
+returns c =
+    let args = c.args in
+    let undamaged = sym c.is_book.ensures ∙ c.if-not-is_book.false in
+    let tenant = tenant_is _ c.if-tenant-gt15.false in
+    let own = own_setting args.book.now args.tenant c.if-tenant-gt15.false in
+    c.read_line.ensures
+    ∙ ap (λ (x : Setting). read_line args.hw args.today x.days args.line.now) c.setting_of-setting.ensures
+    ∙ sym
+    (checked-line args.book.now args.tenant args.hw args.today args.line.now _ undamaged tenant own
+    (rw own at (set_days_lem args.book.now args.tenant undamaged tenant)))

@@ -1,33 +1,61 @@
--- `asking::issue` meets its contract.
+-- `asking::issue` meets its contract: the user permit's refusal, or the line. The check finds the refusals before it by itself.
 -- Assumes nothing.
-use mathlib.Core.Path.{◌≡◌, sym, ◌∙◌}
-use Rattle.forms.proofs.Outputs.{refused}
-use Rattle.judging.specs.Starts.{judged}
-use Rattle.judging.specs.declared.Judged.TheVariants.{Records}
-use Rattle.judging.proofs.Judgements.{judged_says, judged_damaged}
-use Rattle.records.proofs.OwnFound.{searches_own}
-use Rattle.asking.proofs.AnswerRules.{answered_same, issued-damaged, issued-ruled}
+use mathlib.Core.Path.{sym, ap, ◌∙◌}
+use mathlib.Core.Bool.{◌&&◌}
+use borrow.Author.Tests.{leb-true, le-leb}
+use lib.Dec.{leb}
+use lib.ListN.{length}
+use Rattle.std.specs.Prelude.{Result}
+use Rattle.std.proofs.lemmas.Result.{err_from_is_err_and}
+use Rattle.octets.proofs.Every.{and_first, and_second}
+use Rattle.dates.specs.Calendar.{is_date}
+use Rattle.forms.specs.Identifiers.{is_cell_name}
+use Rattle.forms.specs.declared.refusals.Refusal.{Refusal}
+use Rattle.user_permit.specs.declared.Ship.{Ship}
+use Rattle.user_permit.proofs.UserPermits.{read_undamaged}
+use Rattle.tenants.specs.Cells.{cell_of}
+use Rattle.tenants.specs.Rules.{line_for}
+use Rattle.tenants.proofs.Ranges.{tenant_is}
+use Rattle.layout.specs.Layout.{own_in}
+use Rattle.asking.proofs.AnswerRules.{answered_same, judged_undamaged, issued-line, line-refused}
+use Rattle.asking.proofs.LineWritten.{line-written}
 use Rattle.asking.proofs.issue.Goals as goal
-use Rattle.asking.proofs.issue.Goals.{In-Records, Start}
 
--- what is known once the book is found undamaged
-module _ (e : In-Records) where
-  abbrev start : Start
-  start = (goal.at.In-Records e).Start
-
-  judged_so : judged start.args.book.now start.args.tenant ≡ Records e.in-Records.first e.in-Records.past
-  judged_so = sym e.judge.ensures ∙ e.in-Records.is
-
-pub returns-in_default : goal.returns-in_default
-returns-in_default c =
-    refused _ 101 _ (issued-damaged _ _ _ _ _ _ _ _ (judged_damaged _ _ (sym c.judge.ensures ∙ c.in_default.is)))
-
-pub issue_from-requires : goal.issue_from-requires
-issue_from-requires c =
-    let so = judged_so (goal.at.issue_from-requires c).In-Records in
-    ((judged_says _ _ _ _ so).0, c.find-found.ensures ∙ searches_own _ _ _ _ _ so)
+pub returns-in_err-ship : goal.returns-in_err-ship
+returns-in_err-ship c =
+    let args = c.args in
+    let order = args.order in
+    let own = own_in args.book.now args.tenant in
+    let registered = sym c.is_register.ensures ∙ c.if-not-is_register.false in
+    let line =
+    issued-line args.book.now args.register.now args.tenant order.name order.expiry order.level args.permit.now (length args.out.now)
+    (judged_undamaged _ _ _ (sym c.judge.ensures ∙ c.in-Some.is)) registered (tenant_is _ c.if-tenant-gt15.false) (le-leb 76 _ c.if-out-lt76.false)
+    (sym c.is_given.ensures ∙ c.if-not-is_given.false) in
+    let read = read_undamaged args.register.now args.permit.now registered ∙ sym c.read_by.ensures ∙ c.in_err-ship.was in
+    let p = err_from_is_err_and c.from_residual.result c.from_residual.ensures.1 in
+    rw (p.1, p.2)
+    (line-refused _ _ _
+    (line ∙ ap (λ (ship : Result Ship Refusal). line_for ship (cell_of order.name own.cells) own.setting order.expiry order.level) read))
 
 pub returns : goal.returns
 returns c =
-    let so = judged_so (goal.at.returns c).In-Records in
-    answered_same _ _ _ _ _ (issued-ruled _ _ _ _ _ _ _ _ (judged_says _ _ _ _ so).0) c.issue_from.ensures
+    let args = c.args in
+    let order = args.order in
+    let own = own_in args.book.now args.tenant in
+    let undamaged = judged_undamaged _ _ _ (sym c.judge.ensures ∙ c.in-Some.is) in
+    let tenant = tenant_is _ c.if-tenant-gt15.false in
+    let registered = sym c.is_register.ensures ∙ c.if-not-is_register.false in
+    let given = sym c.is_given.ensures ∙ c.if-not-is_given.false in
+    let first = and_first (is_cell_name order.name && is_date order.expiry) (leb order.level 1) given in
+    let date = and_second (is_cell_name order.name) (is_date order.expiry) first in
+    let low = leb-true order.level 1 (and_second (is_cell_name order.name && is_date order.expiry) (leb order.level 1) given) in
+    let line =
+    issued-line args.book.now args.register.now args.tenant order.name order.expiry order.level args.permit.now (length args.out.now)
+    undamaged registered tenant (le-leb 76 _ c.if-out-lt76.false) given in
+    let read = read_undamaged args.register.now args.permit.now registered ∙ sym c.read_by.ensures ∙ c.in_ok-ship.was in
+    answered_same _ _ _ _ _
+    (line
+    ∙ ap (λ (ship : Result Ship Refusal). line_for ship (cell_of order.name own.cells) own.setting order.expiry order.level) read
+    ∙ line-written args.book.now args.tenant undamaged tenant order.expiry order.level date low args.register.now args.permit.now _ read order.name
+    (length args.out.now) c.if-out-lt76.false)
+    c.issue_for.ensures

@@ -5,7 +5,7 @@ use Rattle.records.proofs.Searching.{Left}
 use Rattle.records.proofs.finding.place_of.Given as goal
 
 abbrev pub invariant-loop-low : goal.invariant-loop-low
-invariant-loop-low l = Left l.book l.first l.past l.name l.low l.high
+invariant-loop-low l = Left l.book l.fn.among.first l.fn.among.past l.name l.low l.high
 
 abbrev pub decreases-loop-low : goal.decreases-loop-low
 decreases-loop-low l = l.high - l.low
