@@ -1,5 +1,5 @@
 pub mod LineEnds
-pub mod Words
+pub mod Fronts
 pub mod PartEnds
 pub mod DatedFiles
 pub mod Walks

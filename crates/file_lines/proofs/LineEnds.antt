@@ -1,8 +1,11 @@
 -- Where a line ends: it goes on until CR LF or the file's end, and its CR LF lies within the file.
 -- Assumes nothing.
-use Rattle.std.proofs.Common.{◌≡◌, ℕ, ◌+◌, ◌-◌, ◌<◌, ◌≤◌, Bool, cond, ◌&&◌, eqb, ltb, List, [], ◌∷◌, length, get_or, drop, sym, ap, ◌∙◌, suc-le-suc, le_of_suc-le-suc, add-one, arith, length-drop, get_or-drop, drop-cons, ltb-false, ltb-true, eqb-true}
-use Rattle.octets.proofs.Every.{and_first, and_second, either}
-use Rattle.file_lines.specs.Lines.{line_length, line_ends}
+use Rattle.std.proofs.Common.{◌≡◌, ℕ, ◌+◌, ◌-◌, ◌<◌, ◌≤◌, ◌&&◌, eqb, ltb, List, [], ◌∷◌, length, get_or, drop, sym, subst, ap, ◌∙◌, suc-le-suc, le_of_suc-le-suc, add-one, add-zero, arith, length-drop, get_or-drop, drop-cons, ltb-false, ltb-true, eqb-true, ne_eqb, zero, suc, true, false, Option, None, Some, MatchOption, drop_of_length-le}
+use Rattle.std.proofs.Math.Bool.{and-false}
+use Rattle.std.proofs.Math.ListN.{get_or-eq_default}
+use Rattle.std.specs.Option.{unwrap_or}
+use Rattle.octets.proofs.Every.{and_second, either}
+use Rattle.file_lines.specs.Lines.{is_line_end, line_length, line_ends}
 
 pub line_within : (s : List ℕ) → line_length s ≤ length s
 unfolding line_length
@@ -29,41 +32,49 @@ end_within (c ∷ s) h =
     let rest : line_length s + 2 ≤ length s = end_within s (le_of_suc-le-suc (rw on at h)) in
     rw on (omega arith))
 
-by_head : (i c : ℕ) (s : List ℕ) → i + line_length (c ∷ s) ≡ cond (eqb c 13 && eqb (get_or s 0 0) 10) i (i + 1 + line_length s)
+-- bytes that begin no CR LF are passed
+pub passed_bytes : (n : ℕ) (s : List ℕ) → n ≤ length s → ((k : ℕ) → k < n → is_line_end (get_or s k 0) (get_or s (k + 1) 0) ≡ false)
+    → line_length s ≡ n + line_length (drop n s)
 unfolding line_length
-by_head i c s =
-    either (eqb c 13 && eqb (get_or s 0 0) 10)
-    (λ here. rw here (omega arith))
-    (λ on. rw on (omega arith))
+passed_bytes zero s h none = omega arith
+passed_bytes (suc n) [] h none = absurd (omega arith)
+passed_bytes (suc n) (c ∷ s) h none =
+    let here : is_line_end c (get_or s 0 0) ≡ false = none 0 (omega arith) in
+    let later : (k : ℕ) → k < n → is_line_end (get_or s k 0) (get_or s (k + 1) 0) ≡ false =
+    λ k lt. let e : suc k + 1 ≡ suc (k + 1) = omega arith in
+    subst (λ i. is_line_end (get_or s k 0) (get_or (c ∷ s) i 0) ≡ false) e (none (suc k) (omega arith)) in
+    rw (here, passed_bytes n s (omega arith) later) (omega arith)
+
+-- bytes beyond CR begin none
+pub passed_words : (n : ℕ) (s : List ℕ) → n ≤ length s → ((k : ℕ) → k < n → 13 < get_or s k 0) → line_length s ≡ n + line_length (drop n s)
+passed_words n s h past =
+    passed_bytes n s h (λ k lt. let high : 13 < get_or s k 0 = past k lt in rw (ne_eqb (get_or s k 0) 13 (omega arith)))
+
+-- the first CR LF ends the line, or the end of all
+pub first_line_end : (s : List ℕ) (r : Option ℕ)
+    → MatchOption r ((k : ℕ) → k + 1 < length s → is_line_end (get_or s k 0) (get_or s (k + 1) 0) ≡ false)
+    (λ i. (i + 1 < length s) × (is_line_end (get_or s i 0) (get_or s (i + 1) 0) ≡ true)
+    × ((k : ℕ) → k < i → is_line_end (get_or s k 0) (get_or s (k + 1) 0) ≡ false))
+    → unwrap_or r (length s) ≡ line_length s
+unfolding line_length
+first_line_end s None none =
+    let h : length s ≤ length s = omega arith in
+    let all = passed_bytes (length s) s h (λ k lt.
+    either (ltb (k + 1) (length s))
+    (λ within. none k (ltb-true (k + 1) (length s) within))
+    (λ last.
+    let past : length s ≤ k + 1 = ltb-false (k + 1) (length s) last in
+    rw (get_or-eq_default s 0 past) (and-false (eqb (get_or s k 0) 13)))) in
+    sym (rw (drop_of_length-le s h) at all ∙ add-zero (length s))
+first_line_end s (Some i) first =
+    let h : i < length s = omega arith in
+    let on = passed_bytes i s (omega arith) first.2 in
+    let e : i + 1 + 0 ≡ i + 1 = omega arith in
+    let split : drop i s ≡ get_or s i 0 ∷ drop (i + 1) s = drop-cons s i 0 h ∙ ap (λ (n : ℕ). get_or s i 0 ∷ drop n s) (sym (add-one i)) in
+    let next : get_or (drop (i + 1) s) 0 0 ≡ get_or s (i + 1) 0 = get_or-drop (i + 1) s 0 0 ∙ ap (λ (n : ℕ). get_or s n 0) e in
+    sym (on ∙ rw (split, next, first.1) (add-zero i))
 
 module _ (file : List ℕ) (i : ℕ) where
-  -- CR LF stands at the place
-  abbrev ended : Bool
-  ended = eqb (get_or file i 0) 13 && eqb (get_or file (i + 1) 0) 10
-
-  by_byte : i < length file → line_ends file i ≡ cond ended i (line_ends file (i + 1))
-  unfolding line_ends
-  by_byte h =
-      let e : i + 1 + 0 ≡ i + 1 = omega arith in
-      let next : get_or (drop (i + 1) file) 0 0 ≡ get_or file (i + 1) 0 = get_or-drop (i + 1) file 0 0 ∙ ap (λ (n : ℕ). get_or file n 0) e in
-      let split : drop i file ≡ get_or file i 0 ∷ drop (i + 1) file = drop-cons file i 0 h ∙ ap (λ (n : ℕ). get_or file i 0 ∷ drop n file) (sym (add-one i)) in
-      ap (λ (s : List ℕ). i + line_length s) split
-      ∙ by_head i (get_or file i 0) (drop (i + 1) file)
-      ∙ ap (λ (b : ℕ). cond (eqb (get_or file i 0) 13 && eqb b 10) i (i + 1 + line_length (drop (i + 1) file))) next
-
-  pub ends_here : i < length file → get_or file i 0 ≡ 13 → get_or file (i + 1) 0 ≡ 10 → line_ends file i ≡ i
-  ends_here h cr lf = by_byte h ∙ rw (cr, lf)
-
-  pub goes_on : i < length file → (get_or file i 0 ≡ 13 → get_or file (i + 1) 0 ≡ 10 → ⊥) → line_ends file i ≡ line_ends file (i + 1)
-  goes_on h never =
-      either ended
-      (λ here.
-      absurd
-      (never
-      (eqb-true (get_or file i 0) 13 (and_first (eqb (get_or file i 0) 13) (eqb (get_or file (i + 1) 0) 10) here))
-      (eqb-true (get_or file (i + 1) 0) 10 (and_second (eqb (get_or file i 0) 13) (eqb (get_or file (i + 1) 0) 10) here))))
-      (λ on. by_byte h ∙ rw on)
-
   pub begins_first : i ≤ line_ends file i
   unfolding line_ends
   begins_first = omega arith
@@ -78,18 +89,3 @@ module _ (file : List ℕ) (i : ℕ) where
     next-within less =
         let size : length (drop i file) ≡ length file - i = length-drop i file in
         omega (arith, end_within (drop i file) (omega arith))
-
-    pub ends_with_file : length file ≤ i + 1 → line_ends file i ≡ length file
-    ends_with_file last =
-        let within : line_ends file i ≤ length file = ends-within in
-        either (ltb (line_ends file i) (length file))
-        (λ less. omega (arith, begins_first, next-within (ltb-true (line_ends file i) (length file) less)))
-        (λ whole. omega (arith, ltb-false (line_ends file i) (length file) whole))
-
--- a byte beyond CR and LF ends no line, nor does the byte before it
-pub goes_on_twice : (file : List ℕ) (i : ℕ) → i + 1 < length file → 13 < get_or file (i + 1) 0 → line_ends file i ≡ line_ends file (i + 2)
-goes_on_twice file i h high =
-    let e : i + 1 + 1 ≡ i + 2 = omega arith in
-    goes_on file i (omega arith) (λ cr lf. omega arith)
-    ∙ goes_on file (i + 1) h (λ cr lf. omega arith)
-    ∙ ap (line_ends file) e

@@ -1,14 +1,9 @@
 // What PERMIT.TXT and PRODUCTS.TXT have in common: lines that CR LF ends, :ECS, and the date and time at the start.
 #![tactic(auto)]
 
-ghost use Rattle.std.specs.Prelude.{◌≡◌, ◌≤◌, true, length, nat_lt};
-ghost use Rattle.octets.specs.Numbers.{bytes_of};
-ghost use Rattle.octets.specs.Every.{all_of};
-ghost use Rattle.file_lines.specs.Lines.{line_ends, ends_at, line_found};
+ghost use Rattle.std.specs.Prelude.{◌≡◌, ℕ, ◌+◌, ◌<◌, ◌≤◌, true, length, slice_index, EachIndex, MatchOption, IsTrue, IsFalse};
+ghost use Rattle.file_lines.specs.Lines.{is_line_end, line_length, line_ends, ends_at, line_found};
 ghost use Rattle.file_lines.specs.Dated.{is_below, is_dated};
-
-use octets::numbers::Reading;
-use std::num::wrapping_sub_u64;
 
 pub mod texts; // texts.rt: texts that LF ends
 
@@ -25,61 +20,58 @@ const TOP: u64 = 0x8080_8080_8080_8080;
 
 const PAST_CR: u64 = 0x0e0e_0e0e_0e0e_0e0e;
 
-// Whether the eight bytes of x are surely all beyond CR, as printed characters are: 14 taken from each leaves no top bit, and borrows nothing.
-pub(crate) fn are_past_cr(x: u64) -> bool
-    ensures { result ≡ true → all_of (nat_lt 13) (bytes_of 8 x) ≡ true }
+// Whether eight bytes are surely all beyond CR, as printed characters are: 14 taken from each leaves no top bit, and borrows nothing.
+fn are_past_cr(word: &[u8; 8]) -> bool
+    ensures { result ≡ true → EachIndex word.now (λ k. 13 < slice_index word.now k) }
 {
-    wrapping_sub_u64(x, PAST_CR) & TOP == 0
+    octets::numbers::number64(word, 0).wrapping_sub(PAST_CR) & TOP == 0
 }
 
-// A later place of the line that begins at a place: eight bytes at a time are passed while they are surely beyond CR.
-fn pass_words(file: &[u8], place: usize) -> usize
-    requires { place ≤ length file.now }
-    ensures { (result ≤ length file.now) × (line_ends file.now result ≡ line_ends file.now place) }
+// How many bytes at the start are passed: eight at a time, while they are surely beyond CR.
+pub(crate) fn words_passed(rest: &[u8]) -> usize
+    ensures { (result ≤ length rest.now) × ((k : ℕ) → k < result → 13 < slice_index rest.now k) }
 {
-    let mut i = place;
-    while 8 <= file.len() - i {
-        if !are_past_cr(octets::numbers::number64(file, i)) {
-            return i;
-        }
-        i += 8;
-    }
-    i
+    let (words, _) = rest.as_chunks::<8>();
+    8 * words
+        .iter()
+        .position(|w| !are_past_cr(w))
+        .unwrap_or(words.len())
 }
 
-// Where the line that begins at a place ends: its CR LF, or the file's end. After the words a byte beyond CR is passed together with the one before it.
+// The first CR LF.
+fn line_end_in(rest: &[u8]) -> Option<usize>
+    ensures { MatchOption result
+        ((k : ℕ) → k + 1 < length rest.now → IsFalse (is_line_end (slice_index rest.now k) (slice_index rest.now (k + 1))))
+        (λ i. (i + 1 < length rest.now) × IsTrue (is_line_end (slice_index rest.now i) (slice_index rest.now (i + 1)))
+        × ((k : ℕ) → k < i → IsFalse (is_line_end (slice_index rest.now k) (slice_index rest.now (k + 1))))) }
+{
+    rest.windows(2).position(|w| w[0] == b'\r' && w[1] == b'\n')
+}
+
+// How many bytes stand before the first CR LF; all where there is none.
+fn line_length(rest: &[u8]) -> usize
+    ensures { result ≡ line_length rest.now }
+{
+    let passed = words_passed(rest);
+    passed + line_end_in(&rest[passed..]).unwrap_or(rest.len() - passed)
+}
+
+// Where the line that begins at a place ends: its CR LF, or the file's end.
+#[tactic(auto, using(crate::proofs::LineEnds::line_within), unfolding(crate::specs::Lines::line_ends))]
 fn line_ends(file: &[u8], place: usize) -> usize
     requires { place ≤ length file.now }
     ensures { result ≡ line_ends file.now place }
 {
-    let mut i = pass_words(file, place);
-    while 1 < file.len() - i {
-        if b'\r' < file[i + 1] {
-            i += 2;
-        } else {
-            if file[i] == b'\r' {
-                if file[i + 1] == b'\n' {
-                    return i;
-                }
-            }
-            i += 1;
-        }
-    }
-    file.len()
+    place + line_length(&file[place..])
 }
 
 // Whether nothing is read at a place, whose line ends at end.
+#[tactic(auto, using(crate::proofs::LineEnds::begins_first, crate::proofs::PartEnds::ends_with_bytes, crate::proofs::PartEnds::other_length, crate::proofs::PartEnds::four_bytes))]
 fn ends_at(file: &[u8], place: usize, end: usize) -> bool
     requires { end ≡ line_ends file.now place }
     ensures { result ≡ ends_at file.now place }
 {
-    if place == file.len() {
-        return true;
-    }
-    if end - place != 4 {
-        return false;
-    }
-    text::reading::stands_at(b":ECS", file, place)
+    place == file.len() || end - place == 4 && text::reading::stands_at(b":ECS", file, place)
 }
 
 // What stands at a place. Beyond the file nothing is ended.
@@ -100,33 +92,22 @@ pub fn line_at(file: &[u8], place: usize) -> LineFound
 }
 
 // Whether the two digits at a place are a number below a limit.
+#[tactic(auto, unfolding(crate::specs::Dated::is_below, text::specs::Texts::decimal_at))]
 pub fn is_below(limit: u64, file: &[u8], at: usize) -> bool
     ensures { result ≡ is_below limit file.now at }
 {
-    match text::reading::decimal_at(file, at, 2) {
-        Reading::Number(x) => x < limit,
-        Reading::Wrong => false,
-    }
+    text::reading::decimal_at(file, at, 2).is_some_and(|x| x < limit)
 }
 
 // Whether a file begins with a date and a time.
+#[tactic(auto, unfolding(crate::specs::Dated::is_dated, forms::specs::DateText::date_at))]
 pub fn is_dated(file: &[u8]) -> bool
     ensures { result ≡ is_dated file.now }
 {
-    if !text::reading::stands_at(b":DATE ", file, 0) {
-        return false;
-    }
-    let Reading::Number(_) = forms::date_text::date_at(file, 6) else {
-        return false;
-    };
-    if text::reading::byte_at(file, 14) != b' ' {
-        return false;
-    }
-    if !is_below(24, file, 15) {
-        return false;
-    }
-    if text::reading::byte_at(file, 17) != b':' {
-        return false;
-    }
-    is_below(60, file, 18)
+    text::reading::stands_at(b":DATE ", file, 0)
+        && forms::date_text::date_at(file, 6).is_some()
+        && text::reading::byte_at(file, 14) == b' '
+        && is_below(24, file, 15)
+        && text::reading::byte_at(file, 17) == b':'
+        && is_below(60, file, 18)
 }

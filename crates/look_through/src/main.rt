@@ -1,7 +1,6 @@
 // The look-through: reads standard input and writes its report.
 #![tactic(auto)]
 
-use forms::Written;
 use std::io;
 
 // Writes the first bytes of the output.
@@ -14,13 +13,11 @@ fn write_start(to: &impl Print, out: &[u8], size: usize) -> io::Result<()> {
 
 // Writes the report where the output has the room that its input asks for, and says whether it did.
 fn write_report(to: &impl Print, input: &[u8], out: &mut [u8]) -> io::Result<bool> {
-    match report::look_through(input, out) {
-        Written::Length(size) => {
-            write_start(to, out, size)?;
-            Ok(true)
-        }
-        Written::Refused(_) => Ok(false),
-    }
+    let Ok(size) = report::look_through(input, out) else {
+        return Ok(false);
+    };
+    write_start(to, out, size)?;
+    Ok(true)
 }
 
 // The room that most inputs ask for.

@@ -6,47 +6,47 @@ use mathlib.Core.List.{List, [], ◌∷◌, map}
 use Prim.Native.Nat.{ℕ, zero, suc, ◌+◌, ◌-◌, ◌≤◌, ◌<◌}
 use native.Mathlib.Omega.{arith}
 use lib.ListN.{length, take, drop}
+use Rattle.std.specs.Prelude.{Result, Ok, Err}
 use Rattle.octets.proofs.Every.{never_both}
-use Rattle.cell_permit.specs.declared.Line.{Line}
-use Rattle.cell_permit.specs.declared.Line.TheVariants as line
+use Rattle.forms.specs.declared.refusals.Refusal.{Refusal}
+use Rattle.cell_permit.specs.declared.Record.{Record}
 use Rattle.file_lines.specs.Lines.{line_found}
 use Rattle.file_lines.specs.Walk.{enc_from, closed_from}
 use Rattle.file_lines.specs.declared.LineFound.{LineFound}
 use Rattle.file_lines.specs.declared.LineFound.TheVariants as found
 use Rattle.file_lines.proofs.Walks.{line_bounds, found_part, at_line, at_unended, at_end}
 use Rattle.permit_file.specs.File.{cursor, onward, step_by, first_place, is_end, next_place}
-use Rattle.permit_file.specs.NextLine.{next_of}
 use Rattle.permit_file.specs.declared.Step.{Step}
-use Rattle.permit_file.proofs.NextLines.{answered, line_read}
+use Rattle.permit_file.proofs.NextLines.{found_step, by_found}
 use Rattle.permit_file.proofs.Steps.{places_rise}
-use Rattle.permit_file.specs.declared.Step.TheVariants.{Record, Refused, End}
+use Rattle.permit_file.specs.declared.Step.TheVariants as step
 use Rattle.permit_file.specs.Answers.{following, answers_from, enc_answers}
 
 -- the answers of all lines from a place on
-unfoldable pub rest : (List ℕ → Line) → List ℕ → ℕ → List Line
+unfoldable pub rest : (List ℕ → Result Record Refusal) → List ℕ → ℕ → List (Result Record Refusal)
 rest read file place = answers_from read file (length file - place) place
 
-module _ (read : List ℕ → Line) (file : List ℕ) where
+module _ (read : List ℕ → Result Record Refusal) (file : List ℕ) where
   -- a step that is not the end leaves fewer bytes
   pub rises : (place : ℕ) (s : Step) → place ≤ length file → step_by read file place ≡ s → is_end s ≡ false
       → (place < next_place s) × (next_place s ≤ length file)
   rises place s within here on = rw here at (places_rise read file place within (ap is_end here ∙ on))
 
-  module _ (from other : ℕ → List Line) (place : ℕ) (within : place ≤ length file) where
+  module _ (from other : ℕ → List (Result Record Refusal)) (place : ℕ) (within : place ≤ length file) where
     none_left : (s : Step) → step_by read file place ≡ s → length file ≤ place → following from s ≡ []
-    none_left (Record r c) here last = absurd (omega (arith, rises place (Record r c) within here refl))
-    none_left (Refused n c) here last = absurd (omega (arith, rises place (Refused n c) within here refl))
-    none_left (End c) here last = refl
+    none_left (step.Record r c) here last = absurd (omega (arith, rises place (step.Record r c) within here refl))
+    none_left (step.Refused r c) here last = absurd (omega (arith, rises place (step.Refused r c) within here refl))
+    none_left (step.End c) here last = refl
 
     same_after : (s : Step) → step_by read file place ≡ s → ((next : ℕ) → place < next → next ≤ length file → from next ≡ other next)
         → following from s ≡ following other s
-    same_after (Record r c) here later =
-        let on = rises place (Record r c) within here refl in
-        ap (λ (l : List Line). line.Record r ∷ l) (later c.place on.0 on.1)
-    same_after (Refused n c) here later =
-        let on = rises place (Refused n c) within here refl in
-        ap (λ (l : List Line). line.Refused n ∷ l) (later c.place on.0 on.1)
-    same_after (End c) here later = refl
+    same_after (step.Record r c) here later =
+        let on = rises place (step.Record r c) within here refl in
+        ap (λ (l : List (Result Record Refusal)). Ok r ∷ l) (later c.place on.0 on.1)
+    same_after (step.Refused r c) here later =
+        let on = rises place (step.Refused r c) within here refl in
+        ap (λ (l : List (Result Record Refusal)). Err r ∷ l) (later c.place on.0 on.1)
+    same_after (step.End c) here later = refl
 
   pub enough : (n m place : ℕ) → place ≤ length file → length file - place ≤ n → length file - place ≤ m
       → answers_from read file n place ≡ answers_from read file m place
@@ -73,32 +73,32 @@ module _ (read : List ℕ → Line) (file : List ℕ) where
       (λ next later inside. enough (length file) (length file - next) next inside (omega arith) (omega arith))
 
 -- nothing is left at the file's end
-pub rest_none : (read : List ℕ → Line) (file : List ℕ) → rest read file (length file) ≡ []
+pub rest_none : (read : List ℕ → Result Record Refusal) (file : List ℕ) → rest read file (length file) ≡ []
 unfolding rest answers_from
 rest_none read file =
     let none : length file - length file ≡ 0 = omega arith in
     ap (λ (n : ℕ). answers_from read file n (length file)) none
 
 -- a line's answer, and then those from its next place on
-after_line : (from : ℕ → List Line) (l : Line) (next : ℕ) → following from (onward l (cursor next)) ≡ l ∷ from next
-after_line from (line.Record r) next = refl
-after_line from (line.Refused n) next = refl
+after_line : (from : ℕ → List (Result Record Refusal)) (l : Result Record Refusal) (next : ℕ) → following from (onward l (cursor next)) ≡ l ∷ from next
+after_line from (Ok r) next = refl
+after_line from (Err r) next = refl
 
-module _ (read : List ℕ → Line) (file : List ℕ) where
+module _ (read : List ℕ → Result Record Refusal) (file : List ℕ) where
   module _ (place : ℕ) (within : place ≤ length file) where
     at-the-end : line_found file place ≡ found.End → rest read file place ≡ map read (enc_from file place)
     at-the-end here =
         rest_step read file place within
-        ∙ ap (following (rest read file)) (sym (answered file place read (End (cursor place)) (ap (next_of (length file) place) here)))
+        ∙ ap (following (rest read file)) (by_found read file place ∙ ap (found_step read file place) here)
         ∙ sym (ap (map read) (at_end file place here).0)
 
     at-a-line : (end : ℕ) → line_found file place ≡ found.Line end → rest read file (end + 2) ≡ map read (enc_from file (end + 2))
         → rest read file place ≡ map read (enc_from file place)
     at-a-line end here later =
         rest_step read file place within
-        ∙ ap (following (rest read file)) (sym (line_read file place read end (ap (next_of (length file) place) here)))
+        ∙ ap (following (rest read file)) (by_found read file place ∙ ap (found_step read file place) here)
         ∙ after_line (rest read file) (read (take (end - place) (drop place file))) (end + 2)
-        ∙ ap₂ (λ (s : List ℕ) (l : List Line). read s ∷ l) (found_part file place end here) later
+        ∙ ap₂ (λ (s : List ℕ) (l : List (Result Record Refusal)). read s ∷ l) (found_part file place end here) later
         ∙ sym (ap (map read) (at_line file place end here).0)
 
     -- they are those of the lines here, if they are at every later place

@@ -1,25 +1,20 @@
--- A header has 40 bytes, and what stands behind it says what opening answers.
+-- A header has 40 bytes.
 -- Assumes nothing.
-use mathlib.Core.Path.{◌≡◌, refl, sym, ap, ◌∙◌}
+use mathlib.Core.Path.{◌≡◌, sym, ap, ◌∙◌}
 use mathlib.Core.Bool.{true}
 use mathlib.Core.List.{List}
 use Prim.Native.Nat.{ℕ, ◌≤◌}
 use native.Mathlib.Omega.{arith}
-use lib.Dec.{leb, ltb}
+use lib.Dec.{leb}
 use borrow.Author.Tests.{le-leb}
 use lib.ListN.{length, take, length-take, length-drop}
-use Rattle.octets.proofs.Every.{and_second, either}
+use Rattle.octets.proofs.Every.{and_second}
 use Rattle.text.specs.Texts.{part, all_at, stands_at}
 use Rattle.text.proofs.SameTexts.{same_true}
 use Rattle.text.proofs.TextsAt.{same_within, same_byte}
 use Rattle.forms.specs.DateText.{is_date_at}
-use Rattle.file_lines.specs.Lines.{line_ends, ends_at, line_found}
 use Rattle.file_lines.specs.Dated.{is_below, is_dated}
-use Rattle.file_lines.specs.declared.LineFound.{LineFound}
-use Rattle.file_lines.specs.declared.LineFound.TheVariants as found
-use Rattle.permit_file.specs.File.{cursor, header_rest, is_header, first_place, open_of}
-use Rattle.permit_file.specs.declared.Opened.{Opened}
-use Rattle.permit_file.specs.declared.Opened.TheVariants.{At, Refused}
+use Rattle.permit_file.specs.File.{header_rest, is_header, first_place}
 
 pub header_within : (file : List ℕ) → is_header file ≡ true → first_place ≤ length file
 unfolding is_header
@@ -48,25 +43,3 @@ module _ (f g : List ℕ) (same : take first_place f ≡ take first_place g) whe
   pub header_first : first_place ≤ length f → first_place ≤ length g → is_header f ≡ is_header g
   header_first long other =
       header_alike (λ n h. le-leb n (length f) (omega arith) ∙ sym (le-leb n (length g) (omega arith)))
-
--- what opening answers, by what stands behind the header
-abbrev opens : LineFound → Opened
-opens (found.Line end) = At (cursor first_place)
-opens found.Unended = At (cursor first_place)
-opens found.End = Refused 11
-
-pub by_first : (file : List ℕ) → is_header file ≡ true → open_of file ≡ opens (line_found file first_place)
-unfolding open_of line_found
-by_first file good =
-    either (ends_at file first_place)
-    (λ end. rw (good, end))
-    (λ on.
-    either (ltb (line_ends file first_place) (length file))
-    (λ closed. rw (good, on, closed))
-    (λ runs. rw (good, on, runs)))
-
--- the other two answers open the file
-pub not_end : (f : LineFound) → (f ≡ found.End → ⊥) → opens f ≡ At (cursor first_place)
-not_end (found.Line end) others = refl
-not_end found.Unended others = refl
-not_end found.End others = absurd (others refl)

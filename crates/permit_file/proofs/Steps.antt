@@ -5,31 +5,32 @@ use mathlib.Core.Bool.{true, false}
 use mathlib.Core.List.{List}
 use Prim.Native.Nat.{ℕ, zero, suc, ◌+◌, ◌-◌, ◌≤◌, ◌<◌}
 use native.Mathlib.Omega.{arith}
-use borrow.Author.Tests.{le-leb, ltb-true, eq-eqb, ne_eqb}
+use borrow.Author.Tests.{le-leb, ltb-true, eq-eqb}
 use lib.Dec.{leb, ltb}
 use lib.ListN.{length}
+use Rattle.std.specs.Prelude.{Result, Ok, Err}
 use Rattle.octets.proofs.Every.{either, never_both}
 use Rattle.cell_permit.specs.CellPermit.{ship_words}
 use Rattle.cell_permit.specs.Line.{given_number}
-use Rattle.cell_permit.specs.declared.Line.{Line}
-use Rattle.cell_permit.specs.declared.Line.TheVariants as line
+use Rattle.forms.specs.declared.refusals.Refusal.{Refusal}
+use Rattle.cell_permit.specs.declared.Record.{Record}
 use Rattle.file_lines.specs.Lines.{line_ends, line_at, ends_at}
 use Rattle.file_lines.proofs.LineEnds.{begins_first, next-within}
 use Rattle.file_lines.proofs.PartEnds.{ends_with_bytes}
-use Rattle.permit_file.specs.File.{cursor, onward, step_by, step_with, step_of, is_end, next_place}
+use Rattle.permit_file.specs.File.{cursor, onward, refused_step, step_by, step_with, step_of, is_end, next_place}
 use Rattle.permit_file.specs.Steps.{place_after, PlacesRise, EndStays, FileEnds}
-use Rattle.permit_file.specs.declared.Step.TheVariants.{Refused, End}
+use Rattle.permit_file.specs.declared.Step.TheVariants.{End}
 
-onward_place : (l : Line) (place : ℕ) → next_place (onward l (cursor place)) ≡ place
-onward_place (line.Record r) place = refl
-onward_place (line.Refused n) place = refl
+onward_place : (l : Result Record Refusal) (place : ℕ) → next_place (onward l (cursor place)) ≡ place
+onward_place (Ok r) place = refl
+onward_place (Err r) place = refl
 
-onward_no_end : (l : Line) (place : ℕ) → is_end (onward l (cursor place)) ≡ false
-onward_no_end (line.Record r) place = refl
-onward_no_end (line.Refused n) place = refl
+onward_no_end : (l : Result Record Refusal) (place : ℕ) → is_end (onward l (cursor place)) ≡ false
+onward_no_end (Ok r) place = refl
+onward_no_end (Err r) place = refl
 
-module _ (read : List ℕ → Line) (file : List ℕ) (place : ℕ) where
-  beyond : leb place (length file) ≡ false → step_by read file place ≡ Refused 12 (cursor (length file))
+module _ (read : List ℕ → Result Record Refusal) (file : List ℕ) (place : ℕ) where
+  beyond : leb place (length file) ≡ false → step_by read file place ≡ refused_step 12 (cursor (length file))
   unfolding step_by
   beyond past = rw past
 
@@ -39,7 +40,7 @@ module _ (read : List ℕ → Line) (file : List ℕ) (place : ℕ) where
 
   unended
       : leb place (length file) ≡ true → ends_at file place ≡ false → ltb (line_ends file place) (length file) ≡ false
-      → step_by read file place ≡ Refused 12 (cursor (length file))
+      → step_by read file place ≡ refused_step 12 (cursor (length file))
   unfolding step_by
   unended within on runs = rw (within, on, runs)
 
@@ -62,10 +63,6 @@ module _ (read : List ℕ → Line) (file : List ℕ) (place : ℕ) where
       (λ runs. rw (unended within on runs) (omega arith, omega arith))
 
 module _ (hw today days : ℕ) (file : List ℕ) (place n : ℕ) (given : n ≡ given_number hw today days) where
-  pub given_refused : (n ≡ 0 → ⊥) → step_of hw today days file place ≡ Refused n (cursor place)
-  unfolding step_of
-  given_refused wrong = rw (← given, ne_eqb n 0 wrong)
-
   pub given_good : n ≡ 0 → step_of hw today days file place ≡ step_with (ship_words hw) today days file place
   unfolding step_of
   given_good good = rw (← given, eq-eqb n 0 good)
@@ -91,13 +88,13 @@ end_stays read file place ends =
     ends)))
     (λ past. absurd (never_both (is_end (step_by read file place)) (rw (beyond read file place past)) ends))
 
-stays : (read : List ℕ → Line) (file : List ℕ) (place : ℕ) → is_end (step_by read file place) ≡ true → (n : ℕ) → place_after read file n place ≡ place
+stays : (read : List ℕ → Result Record Refusal) (file : List ℕ) (place : ℕ) → is_end (step_by read file place) ≡ true → (n : ℕ) → place_after read file n place ≡ place
 unfolding place_after
 stays read file place ends zero = refl
 stays read file place ends (suc n) = rw (end_stays read file place ends) (stays read file place ends n)
 
 reached
-    : (read : List ℕ → Line) (file : List ℕ) (n place : ℕ) → place ≤ length file → length file - place ≤ n
+    : (read : List ℕ → Result Record Refusal) (file : List ℕ) (n place : ℕ) → place ≤ length file → length file - place ≤ n
     → is_end (step_by read file (place_after read file n place)) ≡ true
 unfolding place_after
 reached read file zero place h left = rw (at_end read file place (le-leb place (length file) h) (ends_with_bytes file place (omega arith)))

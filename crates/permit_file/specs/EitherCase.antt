@@ -1,10 +1,11 @@
 -- What opening a file and reading it by steps promise: the case of letters in a line's cipher parts, and in a HW_ID, changes neither the answer nor the
 -- next place.
-use Rattle.std.specs.Prelude.{◌≡◌, List, ℕ, take}
+use Rattle.std.specs.Prelude.{◌≡◌, List, ℕ, take, Result}
 use Rattle.text.specs.Characters.{raised_text}
 use Rattle.forms.specs.Identifiers.{raised_hw_id}
+use Rattle.forms.specs.declared.refusals.Refusal.{Refusal}
 use Rattle.cell_permit.specs.EitherCase.{CaseAlone}
-use Rattle.cell_permit.specs.declared.Line.{Line}
+use Rattle.cell_permit.specs.declared.Record.{Record}
 use Rattle.file_lines.specs.Lines.{line_at}
 use Rattle.permit_file.specs.File.{first_place, open_of, step_by, step_of}
 
@@ -21,7 +22,7 @@ OpenEitherCase =
 -- a step there answers the same wherever the two lines are read as the same
 abbrev pub StepsAlike : Type 0
 StepsAlike =
-    (read : List ℕ → Line) (file other : List ℕ) (place : ℕ) → CaseAloneAt file other place
+    (read : List ℕ → Result Record Refusal) (file other : List ℕ) (place : ℕ) → CaseAloneAt file other place
     → read (line_at file place) ≡ read (line_at other place) → step_by read file place ≡ step_by read other place
 
 -- so it does for HW_IDs that differ in case alone: number, values, next place, and whether it is the end

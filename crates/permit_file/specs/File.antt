@@ -1,36 +1,39 @@
 -- A permit file, PERMIT.TXT: its header, and reading on from a place.
-use Rattle.std.specs.Prelude.{Bool, true, false, not, ◌&&◌, List, ℕ, ◌+◌, leb, ltb, eqb, length}
+use Rattle.std.specs.Prelude.{Bool, true, false, not, ◌&&◌, List, ℕ, ◌+◌, leb, ltb, eqb, length, Result, Ok, Err}
 use Rattle.text.specs.Ascii.{ascii}
 use Rattle.text.specs.Texts.{stands_at}
 use Rattle.forms.specs.Order.{demand}
+use Rattle.forms.specs.Refusals.{number_of, refusal_of, refused}
+use Rattle.forms.specs.declared.refusals.Refusal.{Refusal}
 use Rattle.cell_permit.specs.CellPermit.{ship_words}
 use Rattle.cell_permit.specs.Line.{read_with, given_number, line_number}
 use Rattle.cell_permit.specs.Answers.{LineValues, record_values, no_values}
-use Rattle.cell_permit.specs.declared.Line.{Line}
-use Rattle.cell_permit.specs.declared.Line.TheVariants as line
+use Rattle.cell_permit.specs.declared.Record.{Record}
 use Rattle.file_lines.specs.Lines.{line_ends, line_at, ends_at}
 use Rattle.file_lines.specs.Dated.{is_dated}
 use Rattle.permit_file.specs.declared.Cursor.{Cursor}
-use Rattle.permit_file.specs.declared.Opened.{Opened}
-use Rattle.permit_file.specs.declared.Opened.TheVariants as opened
 use Rattle.permit_file.specs.declared.Step.{Step}
-use Rattle.permit_file.specs.declared.Step.TheVariants.{Record, Refused, End}
+use Rattle.permit_file.specs.declared.Step.TheVariants as step
 
 -- the cursor at a place
 abbrev pub cursor : ℕ → Cursor
 cursor place = record { place = place }
 
 -- what a line's answer gives: it, with the next cursor
-abbrev pub onward : Line → Cursor → Step
-onward (line.Record r) next = Record r next
-onward (line.Refused n) next = Refused n next
+abbrev pub onward : Result Record Refusal → Cursor → Step
+onward (Ok r) next = step.Record r next
+onward (Err r) next = step.Refused r next
+
+-- a refusal by its number, with the next cursor
+abbrev pub refused_step : ℕ → Cursor → Step
+refused_step n next = step.Refused (refusal_of n) next
 
 -- one step from a place, where read says what a line gives: 12 for a place beyond the file and for a line that no CR LF ends
-unfoldable pub step_by : (List ℕ → Line) → List ℕ → ℕ → Step
+unfoldable pub step_by : (List ℕ → Result Record Refusal) → List ℕ → ℕ → Step
 step_by read file place =
-    demand (leb place (length file)) (Refused 12 (cursor (length file)))
-    (demand (not (ends_at file place)) (End (cursor place))
-    (demand (ltb (line_ends file place) (length file)) (Refused 12 (cursor (length file)))
+    demand (leb place (length file)) (refused_step 12 (cursor (length file)))
+    (demand (not (ends_at file place)) (step.End (cursor place))
+    (demand (ltb (line_ends file place) (length file)) (refused_step 12 (cursor (length file)))
     (onward (read (line_at file place)) (cursor (line_ends file place + 2)))))
 
 -- one step under the words of a ship
@@ -40,7 +43,7 @@ step_with words today days file place = step_by (read_with words today days) fil
 -- one step: 18, 14 and 103 come first, and answer with the place that was given
 unfoldable pub step_of : ℕ → ℕ → ℕ → List ℕ → ℕ → Step
 step_of hw today days file place =
-    demand (eqb (given_number hw today days) 0) (Refused (given_number hw today days) (cursor place))
+    demand (eqb (given_number hw today days) 0) (refused_step (given_number hw today days) (cursor place))
     (step_with (ship_words hw) today days file place)
 
 -- what follows the time
@@ -56,42 +59,37 @@ abbrev pub first_place : ℕ
 first_place = 40
 
 -- opening a file: 12 for the header, 11 where no line follows it
-unfoldable pub open_of : List ℕ → Opened
+unfoldable pub open_of : List ℕ → Result Cursor Refusal
 open_of file =
-    demand (is_header file) (opened.Refused 12)
-    (demand (not (ends_at file first_place)) (opened.Refused 11)
-    (opened.At (cursor first_place)))
-
--- the number of an opening: 0 for a place
-abbrev pub open_number : Opened → ℕ
-open_number (opened.At c) = 0
-open_number (opened.Refused n) = n
+    demand (is_header file) (refused 12)
+    (demand (not (ends_at file first_place)) (refused 11)
+    (Ok (cursor first_place)))
 
 -- its place; 0 at a refusal
-abbrev pub open_place : Opened → ℕ
-open_place (opened.At c) = c.place
-open_place (opened.Refused n) = 0
+abbrev pub open_place : Result Cursor Refusal → ℕ
+open_place (Ok c) = c.place
+open_place (Err r) = 0
 
 -- the number of a step: that of the line, and 0 for the end
 abbrev pub step_number : Step → ℕ
-step_number (Record r c) = line_number (line.Record r)
-step_number (Refused n c) = n
-step_number (End c) = 0
+step_number (step.Record r c) = line_number (Ok r)
+step_number (step.Refused r c) = number_of r
+step_number (step.End c) = 0
 
 -- what it hands out of a line: nothing at a refusal and at the end
 abbrev pub step_values : Step → LineValues
-step_values (Record r c) = record_values r
-step_values (Refused n c) = no_values
-step_values (End c) = no_values
+step_values (step.Record r c) = record_values r
+step_values (step.Refused r c) = no_values
+step_values (step.End c) = no_values
 
 -- the place that it goes on to
 abbrev pub next_place : Step → ℕ
-next_place (Record r c) = c.place
-next_place (Refused n c) = c.place
-next_place (End c) = c.place
+next_place (step.Record r c) = c.place
+next_place (step.Refused r c) = c.place
+next_place (step.End c) = c.place
 
 -- the step is the end
 abbrev pub is_end : Step → Bool
-is_end (Record r c) = false
-is_end (Refused n c) = false
-is_end (End c) = true
+is_end (step.Record r c) = false
+is_end (step.Refused r c) = false
+is_end (step.End c) = true

@@ -1,5 +1,6 @@
 -- What is printed for inputs that differ in the case of letters alone: they start alike, and their lines are answered alike, one after the other.
 -- Assumes nothing.
+use Rattle.std.specs.Prelude.{Err, Ok, Result}
 use mathlib.Core.Path.{◌≡◌, refl, sym, ap, ◌∙◌}
 use mathlib.Core.List.{List, ◌∷◌}
 use Prim.Native.Nat.{ℕ, zero, suc, ◌+◌, ◌≤◌, ◌<◌}
@@ -9,10 +10,10 @@ use lib.Seq.{get_or-drop}
 use Rattle.text.specs.Texts.{part, all_at}
 use Rattle.text.proofs.Raising.{same_length}
 use Rattle.text.proofs.TextsAt.{part_of_part, same_byte}
+use Rattle.forms.specs.declared.refusals.Refusal.{Refusal}
+use Rattle.cell_permit.specs.declared.Record.{Record}
 use Rattle.cell_permit.specs.CellPermit.{ship_words}
 use Rattle.cell_permit.specs.EitherCase.{CaseAlone}
-use Rattle.cell_permit.specs.declared.Line.{Line}
-use Rattle.cell_permit.specs.declared.Line.TheVariants as line
 use Rattle.cell_permit.proofs.EitherCases.{read_either_case, ship_either_case}
 use Rattle.file_lines.specs.Lines.{line_at}
 use Rattle.permit_file.specs.File.{step_by, first_place, open_of, next_place}
@@ -26,13 +27,13 @@ use Rattle.report.specs.LookThrough.{is_first_line, hw_of, today_of, days_of, fi
 use Rattle.report.specs.EitherCase.{read_for, InputCaseAlone, ReportEitherCase}
 
 -- what follows a step goes by the next place alone
-follow_alike : (from other : ℕ → List Line) (x : Step) → from (next_place x) ≡ other (next_place x) → following from x ≡ following other x
-follow_alike from other (step.Record r c) same = ap (λ (l : List Line). line.Record r ∷ l) same
-follow_alike from other (step.Refused n c) same = ap (λ (l : List Line). line.Refused n ∷ l) same
+follow_alike : (from other : ℕ → List (Result Record Refusal)) (x : Step) → from (next_place x) ≡ other (next_place x) → following from x ≡ following other x
+follow_alike from other (step.Record r c) same = ap (λ (l : List (Result Record Refusal)). Ok r ∷ l) same
+follow_alike from other (step.Refused n c) same = ap (λ (l : List (Result Record Refusal)). Err n ∷ l) same
 follow_alike from other (step.End c) same = refl
 
 -- answers from a place on, where each line that is come to is read alike
-module _ (read : List ℕ → Line) (f g : List ℕ) (steps : (place : ℕ) → CaseAlone (line_at f place) (line_at g place) → step_by read f place ≡ step_by read g place) where
+module _ (read : List ℕ → Result Record Refusal) (f g : List ℕ) (steps : (place : ℕ) → CaseAlone (line_at f place) (line_at g place) → step_by read f place ≡ step_by read g place) where
   answers_alike : (n place : ℕ) → ((m : ℕ) → CaseAlone (line_at f (place_after read f m place)) (line_at g (place_after read f m place)))
       → answers_from read f n place ≡ answers_from read g n place
   unfolding answers_from place_after

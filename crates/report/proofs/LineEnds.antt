@@ -1,24 +1,30 @@
 -- How many CR LFs a list has: byte by byte, no more in a part, one fewer after a line, and two bytes for each.
 -- Assumes nothing.
-use mathlib.Core.Path.{◌≡◌, sym, ap, ◌∙◌}
+use mathlib.Core.Path.{◌≡◌, refl, sym, ap, ◌∙◌}
 use mathlib.Core.Bool.{Bool, true, false, ◌&&◌}
 use mathlib.Core.List.{List, [], ◌∷◌}
-use Prim.Native.Nat.{ℕ, zero, suc, ◌+◌, ◌*◌, ◌≤◌, ◌<◌}
+use Prim.Native.Nat.{ℕ, zero, suc, ◌+◌, ◌-◌, ◌*◌, ◌≤◌, ◌<◌}
 use native.Mathlib.Nat.{le_of_suc-le-suc}
-use native.Mathlib.Numerals.{add-one}
+use Rattle.std.proofs.Common.{add-zero}
+use mir.Val.{bool_byte}
 use native.Mathlib.Omega.{arith}
 use borrow.Author.Tests.{eqb-true}
 use lib.Dec.{eqb}
 use lib.ListN.{length, get_or, drop, length-drop}
 use lib.Seq.{drop-cons, drop-drop, get_or-drop}
 use Rattle.octets.proofs.Every.{and_first, and_second, either}
-use Rattle.file_lines.specs.Lines.{line_length, line_ends}
+use Rattle.file_lines.specs.Lines.{is_line_end, line_length, line_ends}
 use Rattle.report.specs.LookThrough.{line_ends_in}
 use Rattle.report.specs.Turns.{one_if}
 
 -- CR LF stands where a byte is put before a list
 abbrev ends : ℕ → List ℕ → Bool
 ends c s = eqb c 13 && eqb (get_or s 0 0) 10
+
+-- a test as a number
+pub byte_of : (test : Bool) → bool_byte test ≡ one_if test
+byte_of true = refl
+byte_of false = refl
 
 one_at_most : (test : Bool) → one_if test ≤ 1
 one_at_most true = omega arith
@@ -28,15 +34,20 @@ by_head : (c : ℕ) (s : List ℕ) → line_ends_in (c ∷ s) ≡ one_if (ends c
 unfolding line_ends_in
 by_head c s = either (ends c s) (λ here. rw here (omega arith)) (λ on. rw on (omega arith))
 
-pub by_byte : (s : List ℕ) (i : ℕ) → i < length s
-    → line_ends_in (drop i s) ≡ one_if (eqb (get_or s i 0) 13 && eqb (get_or s (i + 1) 0) 10) + line_ends_in (drop (i + 1) s)
-by_byte s i h =
-    let e : i + 1 + 0 ≡ i + 1 = omega arith in
-    let next : get_or (drop (i + 1) s) 0 0 ≡ get_or s (i + 1) 0 = get_or-drop (i + 1) s 0 0 ∙ ap (λ (n : ℕ). get_or s n 0) e in
-    let split : drop i s ≡ get_or s i 0 ∷ drop (i + 1) s = drop-cons s i 0 h ∙ ap (λ (n : ℕ). get_or s i 0 ∷ drop n s) (sym (add-one i)) in
+-- CR LF stands at a byte and the one before it, or does not
+pub next_counted : (s : List ℕ) (i : ℕ) → 0 < i → i < length s
+    → line_ends_in (drop (i - 1) s) ≡ bool_byte (is_line_end (get_or s (i - 1) 0) (get_or s i 0)) + line_ends_in (drop (i + 1 - 1) s)
+next_counted s i first h =
+    let e : suc (i - 1) ≡ i = omega arith in
+    let here : i + 1 - 1 ≡ i = omega arith in
+    let next : get_or (drop i s) 0 0 ≡ get_or s i 0 = get_or-drop i s 0 0 ∙ ap (λ (n : ℕ). get_or s n 0) (add-zero i) in
+    let split : drop (i - 1) s ≡ get_or s (i - 1) 0 ∷ drop i s =
+    drop-cons s (i - 1) 0 (omega arith) ∙ ap (λ (n : ℕ). get_or s (i - 1) 0 ∷ drop n s) e in
     ap line_ends_in split
-    ∙ by_head (get_or s i 0) (drop (i + 1) s)
-    ∙ ap (λ (b : ℕ). one_if (eqb (get_or s i 0) 13 && eqb b 10) + line_ends_in (drop (i + 1) s)) next
+    ∙ by_head (get_or s (i - 1) 0) (drop i s)
+    ∙ ap (λ (b : ℕ). one_if (eqb (get_or s (i - 1) 0) 13 && eqb b 10) + line_ends_in (drop i s)) next
+    ∙ ap (λ (n : ℕ). n + line_ends_in (drop i s)) (sym (byte_of (is_line_end (get_or s (i - 1) 0) (get_or s i 0))))
+    ∙ ap (λ (n : ℕ). bool_byte (is_line_end (get_or s (i - 1) 0) (get_or s i 0)) + line_ends_in (drop n s)) (sym here)
 
 pub fewer_after : (n : ℕ) (s : List ℕ) → line_ends_in (drop n s) ≤ line_ends_in s
 fewer_after zero s = omega arith
@@ -77,3 +88,7 @@ two_and_first (c ∷ s) =
 
 pub two_bytes_each : (s : List ℕ) → 2 * line_ends_in s ≤ length s
 two_bytes_each s = omega (arith, two_and_first s)
+
+-- one for two bytes, and none for one
+pub few_ends : (s : List ℕ) (i : ℕ) → length s ≤ i + 1 → line_ends_in (drop i s) ≡ 0
+few_ends s i last = omega (arith, two_bytes_each (drop i s), length-drop i s)

@@ -8,16 +8,17 @@ use native.Mathlib.Omega.{arith}
 use borrow.Author.Tests.{leb-true, leb-false, eqb-true, eqb-false, le-leb, lt-leb, eq-eqb, ne_eqb}
 use lib.Dec.{leb, eqb}
 use lib.ListN.{length, length-append, length-drop}
+use Rattle.std.specs.Prelude.{Ok}
 use Rattle.octets.proofs.Every.{either}
 use Rattle.text.specs.Texts.{width, placed}
 use Rattle.text.proofs.Numerals.{numeral-length, width-at-most}
 use Rattle.text.proofs.PlacedTexts.{placed_start}
 use Rattle.forms.specs.Output.{text, refusal, written_of, lent_after}
-use Rattle.forms.specs.declared.Written.TheVariants as written
+use Rattle.forms.specs.Refusals.{refusal_number}
 use Rattle.cell_permit.specs.CellPermit.{ship_words}
 use Rattle.cell_permit.specs.Line.{read_with, given_number}
 use Rattle.cell_permit.proofs.LineNumbers.{two_digits}
-use Rattle.permit_file.specs.File.{is_header, open_of, open_number, first_place}
+use Rattle.permit_file.specs.File.{is_header, open_of, first_place}
 use Rattle.permit_file.proofs.Headers.{header_within}
 use Rattle.permit_file.specs.Answers.{enc_answers}
 use Rattle.report.specs.LookThrough.{is_first_line, hw_of, today_of, days_of, file_of, start_number, answers_of, rows_from, totals_of, refused_text, report, line_ends_in, room_for, reported}
@@ -48,7 +49,7 @@ module _ (input : List ℕ) (good : start_number input ≡ 0) where
       (λ so. eqb-true number 0 so)
       (λ other. sym (wrong-given input size shape (eqb-false number 0 other)) ∙ good)
 
-  opens : open_number (open_of (file_of input)) ≡ 0
+  opens : refusal_number (open_of (file_of input)) ≡ 0
   opens = sym (by-opening input size shape given) ∙ good
 
   header : is_header (file_of input) ≡ true
@@ -156,8 +157,10 @@ module _ (input out : List ℕ) (room : room_for input ≤ length out) (fits : l
 
   -- a report that is put at the output's start is the answer
   pub answered : (end : ℕ) (after : List ℕ) → end ≡ length (report input) → after ≡ placed 0 (report input) out
-      → (written.Length end ≡ written_of (reported input (length out))) × (after ≡ lent_after (reported input (length out)) out)
-  answered end after size put = rw told (ap written.Length size, put ∙ placed_start (report input) out fits)
+      → (Ok end ≡ written_of (reported input (length out))) × (after ≡ lent_after (reported input (length out)) out)
+  answered end after long put =
+      let same : Ok end ≡ written_of (text (report input)) = cc in
+      rw told (same, put ∙ placed_start (report input) out fits)
 
 pub same_answers : (input words file : List ℕ) (today days : ℕ)
     → words ≡ ship_words (hw_of input) → today ≡ today_of input → days ≡ days_of input → file ≡ file_of input

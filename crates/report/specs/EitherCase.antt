@@ -1,19 +1,20 @@
 -- What the look-through promises of small letters: their case changes no byte of what is printed.
-use Rattle.std.specs.Prelude.{◌≡◌, List, ℕ, length, take}
+use Rattle.std.specs.Prelude.{◌≡◌, List, ℕ, length, take, Result}
 use Rattle.text.specs.Characters.{raised_text}
 use Rattle.text.specs.Texts.{part}
 use Rattle.forms.specs.Identifiers.{raised_hw_id}
+use Rattle.forms.specs.declared.refusals.Refusal.{Refusal}
+use Rattle.cell_permit.specs.declared.Record.{Record}
 use Rattle.cell_permit.specs.CellPermit.{ship_words}
 use Rattle.cell_permit.specs.Line.{read_with}
 use Rattle.cell_permit.specs.EitherCase.{CaseAlone}
-use Rattle.cell_permit.specs.declared.Line.{Line}
 use Rattle.file_lines.specs.Lines.{line_at}
 use Rattle.permit_file.specs.File.{first_place}
 use Rattle.permit_file.specs.Steps.{place_after}
 use Rattle.report.specs.LookThrough.{hw_of, today_of, days_of, file_of, report}
 
 -- how the lines of an input are read
-abbrev pub read_for : List ℕ → List ℕ → Line
+abbrev pub read_for : List ℕ → List ℕ → Result Record Refusal
 read_for input = read_with (ship_words (hw_of input)) (today_of input) (days_of input)
 
 -- the place of an input's line n, counted from 0

@@ -1,5 +1,5 @@
 -- What the look-through program prints for what it reads.
-use Rattle.std.specs.Prelude.{Bool, true, false, cond, ◌&&◌, List, [], ◌∷◌, ◌++◌, ℕ, suc, ◌+◌, ◌*◌, leb, eqb, length, get_or, drop}
+use Rattle.std.specs.Prelude.{Bool, true, false, cond, ◌&&◌, List, [], ◌∷◌, ◌++◌, ℕ, suc, ◌+◌, ◌*◌, leb, eqb, length, get_or, drop, Err, Ok, Result}
 use Rattle.octets.specs.Every.{count_of}
 use Rattle.octets.specs.Numbers.{bytes_of}
 use Rattle.octets.specs.Places.{number_at}
@@ -8,12 +8,13 @@ use Rattle.text.specs.Characters.{is_digit, decimal_number}
 use Rattle.text.specs.Texts.{part, all_at, stands_at, numeral}
 use Rattle.forms.specs.Order.{demand}
 use Rattle.forms.specs.Output.{Output, text, refusal}
+use Rattle.forms.specs.declared.refusals.Refusal.{Refusal}
+use Rattle.forms.specs.Refusals.{refusal_number}
+use Rattle.cell_permit.specs.declared.Record.{Record}
 use Rattle.cell_permit.specs.CellPermit.{ship_words, line_end}
 use Rattle.cell_permit.specs.Line.{read_with, given_number, line_number}
-use Rattle.cell_permit.specs.declared.Line.{Line}
-use Rattle.cell_permit.specs.declared.Line.TheVariants as line
 use Rattle.file_lines.specs.Lines.{is_line_end}
-use Rattle.permit_file.specs.File.{open_of, open_number}
+use Rattle.permit_file.specs.File.{open_of}
 use Rattle.permit_file.specs.Answers.{enc_answers}
 
 -- the first line, read by position: five bytes, a blank, eight bytes, a blank, two digits, CR LF
@@ -47,38 +48,38 @@ start_number input =
     demand (leb (length input) 65536) 103
     (demand (is_first_line input) 103
     (or_else (given_number (hw_of input) (today_of input) (days_of input))
-    (open_number (open_of (file_of input)))))
+    (refusal_number (open_of (file_of input)))))
 
 -- the answers for an input
-unfoldable pub answers_of : List ℕ → List Line
+unfoldable pub answers_of : List ℕ → List (Result Record Refusal)
 answers_of input = enc_answers (read_with (ship_words (hw_of input)) (today_of input) (days_of input)) (file_of input)
 
 -- the cell name; eight hyphens when refused
-abbrev pub name_shown : Line → List ℕ
-name_shown (line.Record r) = bytes_of 8 r.name
-name_shown (line.Refused n) = ascii "--------"
+abbrev pub name_shown : Result Record Refusal → List ℕ
+name_shown (Ok r) = bytes_of 8 r.name
+name_shown (Err n) = ascii "--------"
 
 -- a line's row: its count, its number, the cell name, LF
-unfoldable pub row_of : ℕ → Line → List ℕ
+unfoldable pub row_of : ℕ → Result Record Refusal → List ℕ
 row_of count a = numeral count ++ ((ascii " " ++ numeral (line_number a)) ++ ((ascii " " ++ name_shown a) ++ ascii "\n"))
 
 -- the rows of the answers, counted on from a number
-unfoldable pub rows_from : ℕ → List Line → List ℕ
+unfoldable pub rows_from : ℕ → List (Result Record Refusal) → List ℕ
 rows_from count [] = []
 rows_from count (a ∷ answers) = row_of count a ++ rows_from (suc count) answers
 
 -- a record with a notice of this number: current 0, soon 20, expired 15
-abbrev pub is_noticed : ℕ → Line → Bool
-is_noticed number (line.Record r) = eqb (line_number (line.Record r)) number
-is_noticed number (line.Refused n) = false
+abbrev pub is_noticed : ℕ → Result Record Refusal → Bool
+is_noticed number (Ok r) = eqb (line_number (Ok r)) number
+is_noticed number (Err n) = false
 
 -- a refused line
-abbrev pub is_refused : Line → Bool
-is_refused (line.Record r) = false
-is_refused (line.Refused n) = true
+abbrev pub is_refused : Result Record Refusal → Bool
+is_refused (Ok r) = false
+is_refused (Err n) = true
 
 -- the totals by kind: each is the number of ENC lines of that kind
-unfoldable pub totals_of : List Line → List ℕ
+unfoldable pub totals_of : List (Result Record Refusal) → List ℕ
 totals_of answers =
     (ascii "records " ++ numeral (length answers))
     ++ ((ascii " current " ++ numeral (count_of (is_noticed 0) answers))

@@ -4,13 +4,15 @@ ghost use Rattle.text.specs.Texts.{numeral, placed};
 ghost use Rattle.cell_permit.specs.Line.{read_with};
 ghost use Rattle.permit_file.specs.File.{step_with};
 ghost use Rattle.permit_file.specs.Answers.{enc_answers};
-ghost use Rattle.report.specs.LookThrough.{name_shown, row_of, rows_from, is_noticed, is_refused, line_ends_in};
-ghost use Rattle.report.specs.Turns.{Few, row_number, row_end, one_if, counted, moved_to, turned, row_put, tally_of};
+ghost use Rattle.report.specs.LookThrough.{name_shown, row_of, rows_from, is_noticed, line_ends_in};
+ghost use Rattle.report.specs.Turns.{Few, row_number, row_end, counted, turned, row_put, tally_of};
 
-use cell_permit::Line;
+use cell_permit::Record;
+use forms::refusals::Refusal;
 use permit_file::{Cursor, Step};
 
 // How far the look-through has come: the place in the file, the bytes written, and the lines counted by kind.
+// No ghost field says that its counts are small: that a line more keeps them so depends on the file, so a turn would have to be told of that instead.
 #[derive(Clone, Copy)]
 pub struct Tally {
     pub place: usize,
@@ -41,17 +43,17 @@ pub(crate) fn put_field(out: &mut [u8], at: usize, word: &[u8], x: u64) -> usize
     put_numeral(out, at + word.len(), x)
 }
 
-fn name_of(a: Line) -> [u8; 8]
+fn name_of(a: Result<Record, Refusal>) -> [u8; 8]
     ensures { result ≡ name_shown a }
 {
     match a {
-        Line::Record(r) => octets::numbers::bytes64(r.name),
-        Line::Refused(_) => [b'-'; 8],
+        Ok(r) => octets::numbers::bytes64(r.name),
+        Err(_) => [b'-'; 8],
     }
 }
 
 // Puts a blank, the cell name and LF; answers the place after them.
-fn put_row_end(out: &mut [u8], at: usize, a: Line) -> usize
+fn put_row_end(out: &mut [u8], at: usize, a: Result<Record, Refusal>) -> usize
     requires { at + length (row_end a) ≤ length out.old }
     ensures { (result ≡ at + length (row_end a)) × (out.new ≡ placed at (row_end a) out.old) }
 {
@@ -63,7 +65,7 @@ fn put_row_end(out: &mut [u8], at: usize, a: Line) -> usize
 }
 
 // Puts a blank and a line's number; answers the place after them.
-fn put_number(out: &mut [u8], at: usize, a: Line) -> usize
+fn put_number(out: &mut [u8], at: usize, a: Result<Record, Refusal>) -> usize
     requires { at + length (row_number a) ≤ length out.old }
     ensures { (result ≡ at + length (row_number a)) × (out.new ≡ placed at (row_number a) out.old) }
 {
@@ -71,7 +73,7 @@ fn put_number(out: &mut [u8], at: usize, a: Line) -> usize
 }
 
 // Puts a line's row; answers the place after it.
-fn put_row(out: &mut [u8], at: usize, count: u64, a: Line) -> usize
+fn put_row(out: &mut [u8], at: usize, count: u64, a: Result<Record, Refusal>) -> usize
     requires { at + length (row_of count a) ≤ length out.old }
     ensures { (result ≡ at + length (row_of count a)) × (out.new ≡ placed at (row_of count a) out.old) }
 {
@@ -81,75 +83,32 @@ fn put_row(out: &mut [u8], at: usize, count: u64, a: Line) -> usize
 }
 
 // Whether a line is a record whose notice has this number.
-fn is_noticed(number: u32, a: Line) -> bool
+fn is_noticed(number: u32, a: Result<Record, Refusal>) -> bool
     ensures { result ≡ is_noticed number a }
 {
-    match a {
-        Line::Record(_) => cell_permit::line_number(a) == number,
-        Line::Refused(_) => false,
-    }
-}
-
-fn is_refused(a: Line) -> bool
-    ensures { result ≡ is_refused a }
-{
-    match a {
-        Line::Record(_) => false,
-        Line::Refused(_) => true,
-    }
-}
-
-// One more where the test holds.
-fn more(n: u64, test: bool) -> u64
-    requires { n < 100000 }
-    ensures { result ≡ n + one_if test }
-{
-    if test { n + 1 } else { n }
-}
-
-// Counts a line whose row ends at a place of the output.
-fn count_line(a: Line, next: usize, written: usize, t: Tally) -> Tally
-    requires few { Few 100000 t }
-    requires written_value { written ≡ t.written + length (row_of (t.count + 1) a) }
-    ensures { result ≡ counted a next t }
-{
-    Tally {
-        place: next,
-        written: written,
-        count: t.count + 1,
-        current: more(t.current, is_noticed(0, a)),
-        soon: more(t.soon, is_noticed(20, a)),
-        expired: more(t.expired, is_noticed(15, a)),
-        refused: more(t.refused, is_refused(a)),
-    }
+    a.is_ok() && cell_permit::line_number(a) == number
 }
 
 // Puts a line's row and counts it.
-fn list_line(out: &mut [u8], a: Line, next: usize, t: Tally) -> Tally
+#[tactic(auto, using(crate::proofs::LineEnds::byte_of), unfolding(crate::specs::Turns::counted))]
+fn list_line(out: &mut [u8], a: Result<Record, Refusal>, next: usize, t: Tally) -> Tally
     requires few { Few 100000 t }
     requires a_in_bounds { t.written + length (row_of (t.count + 1) a) ≤ length out.old }
     ensures { (result ≡ counted a next t) × (out.new ≡ placed t.written (row_of (t.count + 1) a) out.old) }
 {
-    let written = put_row(out, t.written, t.count + 1, a);
-    count_line(a, next, written, t)
-}
-
-// The tally moved to a place.
-fn moved_to(next: usize, t: Tally) -> Tally
-    ensures { result ≡ moved_to next t }
-{
     Tally {
         place: next,
-        written: t.written,
-        count: t.count,
-        current: t.current,
-        soon: t.soon,
-        expired: t.expired,
-        refused: t.refused,
+        written: put_row(out, t.written, t.count + 1, a),
+        count: t.count + 1,
+        current: t.current + u64::from(is_noticed(0, a)),
+        soon: t.soon + u64::from(is_noticed(20, a)),
+        expired: t.expired + u64::from(is_noticed(15, a)),
+        refused: t.refused + u64::from(a.is_err()),
     }
 }
 
 // One step: a line is listed, and the end goes on to the file's end.
+#[tactic(auto, using(text::proofs::PlacedTexts::placed_none), unfolding(crate::specs::Turns::moved_to))]
 fn turn(file: &[u8], words: &[u32; 1042], today: u32, days: u32, out: &mut [u8], t: Tally) -> Tally
     requires few { Few 100000 t }
     requires t_in_bounds { t.written + length (row_put (step_with words.now today days file.now t.place) t) ≤ length out.old }
@@ -159,9 +118,12 @@ fn turn(file: &[u8], words: &[u32; 1042], today: u32, days: u32, out: &mut [u8],
     let cursor = Cursor { place: t.place };
     let s = cursor.step_with(file, words, today, days);
     match s {
-        Step::Record(r, next) => list_line(out, Line::Record(r), next.place, t),
-        Step::Refused(n, next) => list_line(out, Line::Refused(n), next.place, t),
-        Step::End(_) => moved_to(file.len(), t),
+        Step::Record(r, next) => list_line(out, Ok(r), next.place, t),
+        Step::Refused(r, next) => list_line(out, Err(r), next.place, t),
+        Step::End(_) => Tally {
+            place: file.len(),
+            ..t
+        },
     }
 }
 
@@ -187,6 +149,7 @@ pub(crate) fn list_lines(
         expired: 0,
         refused: 0,
     };
+    // each turn tells where the next line is
     while t.place < file.len() {
         t = turn(file, words, today, days, out, t);
     }

@@ -1,5 +1,6 @@
 -- `report::list_all` meets its contract: the rows of all answers, and the totals.
 -- Assumes nothing.
+use Rattle.std.specs.Prelude.{Result}
 use mathlib.Core.Path.{◌≡◌, ap, ap₂, ◌∙◌}
 use mathlib.Core.List.{List}
 use Prim.Native.Nat.{ℕ, ◌-◌, ◌≤◌}
@@ -7,9 +8,10 @@ use native.Mathlib.Omega.{arith}
 use lib.ListN.{length, take, drop, length-drop}
 use lib.Seq.{take_all}
 use Rattle.text.specs.Texts.{placed}
+use Rattle.forms.specs.declared.refusals.Refusal.{Refusal}
+use Rattle.cell_permit.specs.declared.Record.{Record}
 use Rattle.cell_permit.specs.CellPermit.{ship_words}
 use Rattle.cell_permit.specs.Line.{read_with}
-use Rattle.cell_permit.specs.declared.Line.{Line}
 use Rattle.permit_file.specs.Answers.{enc_answers}
 use Rattle.report.specs.LookThrough.{file_of, answers_of, rows_from, line_ends_in}
 use Rattle.report.specs.Turns.{tally_of}
@@ -50,7 +52,7 @@ module _ (lines : After-list_lines-t) where
   tallied = lines.list_lines-t.ensures.0 ∙ ap₂ tally_of (ap length (rest_file input)) answers
 
   listed : out1 ≡ placed 0 (rows_from 1 (answers_of input)) out
-  listed = lines.list_lines-t.ensures.1 ∙ ap (λ (l : List Line). placed 0 (rows_from 1 l) out) answers
+  listed = lines.list_lines-t.ensures.1 ∙ ap (λ (l : List (Result Record Refusal)). placed 0 (rows_from 1 l) out) answers
 
 line_within : (days : After-days_of-days) → 19 ≤ length days.args.input.now
 line_within days =

@@ -1,5 +1,6 @@
 -- `report::rows::list_lines` meets its contract. The loop's invariant: the answers that are listed and those that are left are all answers.
 -- The measure is what is left of the file. Assumes nothing.
+use Rattle.std.specs.Prelude.{Result}
 use mathlib.Core.Path.{refl, ap, ◌∙◌}
 use mathlib.Core.List.{List}
 use Prim.Native.Nat.{ℕ, ◌≤◌}
@@ -7,8 +8,9 @@ use native.Mathlib.Omega.{arith}
 use lib.ListN.{length}
 use Rattle.octets.specs.Every.{count_of}
 use Rattle.text.proofs.PlacedTexts.{length-placed}
+use Rattle.forms.specs.declared.refusals.Refusal.{Refusal}
+use Rattle.cell_permit.specs.declared.Record.{Record}
 use Rattle.cell_permit.specs.Line.{read_with}
-use Rattle.cell_permit.specs.declared.Line.{Line}
 use Rattle.cell_permit.proofs.LineNumbers.{two_digits}
 use Rattle.permit_file.specs.File.{step_by}
 use Rattle.report.specs.LookThrough.{rows_from}
@@ -32,7 +34,7 @@ module _ (at : At-loop-t) where
   abbrev start : List ℕ
   start = at.args.out.now
 
-  abbrev read : List ℕ → Line
+  abbrev read : List ℕ → Result Record Refusal
   read =
       let args = at.args in
       read_with args.words.now args.today args.days
