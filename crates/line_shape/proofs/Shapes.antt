@@ -1,6 +1,6 @@
 -- The parts of a line put together, and how long a line is at least.
 -- Assumes nothing.
-use Rattle.std.proofs.Common.{◌≡◌, ℕ, zero, suc, ◌+◌, ◌-◌, ◌*◌, ◌/◌, ◌<◌, ◌≤◌, Bool, true, false, cond, not, ◌&&◌, eqb, leb, List, ◌∷◌, length, get_or, take, sym, refl, ap, ◌∙◌, ap₂, arith, drop-cons, le-ltb, lt-ltb, eq-eqb, ne_eqb, le-leb, leb-true}
+use Rattle.std.proofs.Common.{◌≡◌, ℕ, suc, ◌+◌, ◌-◌, ◌*◌, ◌<◌, ◌≤◌, Bool, true, false, cond, ◌&&◌, List, ◌∷◌, length, get_or, take, sym, refl, ap, ◌∙◌, ap₂, arith, drop-cons, le-ltb, lt-ltb, eq-eqb, ne_eqb, le-leb}
 use mathlib.Core.Bool.{and_assoc, and-true}
 use borrow.Author.Tests.{lt-leb}
 use lib.Bits.{bit_or}
@@ -9,7 +9,7 @@ use Rattle.octets.specs.Places.{number_at}
 use Rattle.octets.specs.Every.{all_of}
 use Rattle.octets.proofs.Every.{either}
 use Rattle.octets.proofs.Places.{bytes_at}
-use Rattle.text.specs.Characters.{between, is_digit, is_hex, is_name_character, is_printable, decimal_number}
+use Rattle.text.specs.Characters.{is_digit, is_hex, is_name_character, is_printable, decimal_number}
 use Rattle.text.specs.Texts.{part, all_at}
 use Rattle.text.proofs.TextsAt.{all_inside, all_append, part_join}
 use Rattle.dates.specs.Calendar.{is_date}
@@ -35,15 +35,6 @@ third_wrong : (a b c d : Bool) → c ≡ false → false ≡ (a && b && c && d)
 third_wrong true true c d bad = rw bad
 third_wrong true false c d bad = refl
 third_wrong false b c d bad = refl
-
--- 1 or 0, and their products
-pub at_most_one : (t : Bool) (a : ℕ) → a ≡ cond t 1 0 → a ≤ 1
-at_most_one true a is = omega arith
-at_most_one false a is = omega arith
-
-pub product_small : (a b : ℕ) → a ≤ 1 → b ≤ 1 → a * b ≤ 1
-product_small zero b x y = omega arith
-product_small (suc a) b x y = let e : a ≡ 0 = omega arith in rw e (omega arith)
 
 -- the shortest line has no edition and no comment
 pub shortest_line : (line : List ℕ) → is_line line ≡ true → 71 ≤ length line
@@ -109,37 +100,6 @@ module _ (line : List ℕ) where
         pub by-cipher : dated ≡ true → all_of is_hex (part 48 line 16) ≡ is_permit line
         unfolding is_permit
         by-cipher right = rw (sym told ∙ good, sym date-told ∙ right) (cipher_parts long)
-
-  -- the service level
-  pub no_comma1 : (get_or line 64 0 ≡ 44 → ⊥) → false ≡ is_level_part line
-  unfolding is_level_part
-  no_comma1 other = rw (ne_eqb (get_or line 64 0) 44 other)
-
-  level_range : get_or line 65 0 / 2 ≡ 24 → between 48 49 (get_or line 65 0) ≡ true
-  level_range half = rw (le-leb 48 (get_or line 65 0) (omega arith), le-leb (get_or line 65 0) 49 (omega arith))
-
-  level_wrong : (get_or line 65 0 / 2 ≡ 24 → ⊥) → between 48 49 (get_or line 65 0) ≡ false
-  level_wrong other =
-      either (leb 48 (get_or line 65 0))
-      (λ low. either (leb (get_or line 65 0) 49)
-      (λ high. let a = leb-true 48 (get_or line 65 0) low in
-      let half : get_or line 65 0 / 2 ≡ 24 = omega (arith, leb-true (get_or line 65 0) 49 high) in absurd (other half))
-      (λ high. rw (low, high)))
-      (λ low. rw low)
-
-  module _ (comma1 : get_or line 64 0 ≡ 44) where
-    pub no_level : (get_or line 65 0 / 2 ≡ 24 → ⊥) → false ≡ is_level_part line
-    unfolding is_level_part
-    no_level other = rw (eq-eqb (get_or line 64 0) 44 comma1, level_wrong other)
-
-    module _ (half : get_or line 65 0 / 2 ≡ 24) where
-      pub no-comma2 : (get_or line 66 0 ≡ 44 → ⊥) → false ≡ is_level_part line
-      unfolding is_level_part
-      no-comma2 other = rw (eq-eqb (get_or line 64 0) 44 comma1, level_range half, ne_eqb (get_or line 66 0) 44 other)
-
-      pub by_zero : get_or line 66 0 ≡ 44 → not (eqb (get_or line 67 0) 48) ≡ is_level_part line
-      unfolding is_level_part
-      by_zero comma2 = rw (eq-eqb (get_or line 64 0) 44 comma1, level_range half, eq-eqb (get_or line 66 0) 44 comma2)
 
   pub few : (n : ℕ) → n ≡ edition_length line → n ≤ 3
   few n count = edition_few line n count

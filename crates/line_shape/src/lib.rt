@@ -18,6 +18,7 @@ use std::num::wrapping_sub_u8;
 const ZEROS: u64 = 0x3030_3030_3030_3030;
 
 // A byte whose top bit is set where c is none of the characters from low to high.
+#[tactic(auto, using(crate::proofs::Faults::within_range))]
 fn outside(low: u8, high: u8, c: u8) -> u8
     requires { (low ≤ high) × (high ≤ 127) }
     ensures { nat_lt result 128 ≡ between low high c }
@@ -26,6 +27,7 @@ fn outside(low: u8, high: u8, c: u8) -> u8
 }
 
 // The same where c is none of 0-9 A-F a-f: a capital has its small letter's bits but one, which is set in both.
+#[tactic(auto, using(crate::proofs::Faults::hex_passes))]
 fn no_hex(c: u8) -> u8
     ensures { nat_lt result 128 ≡ is_hex c }
 {
@@ -33,6 +35,7 @@ fn no_hex(c: u8) -> u8
 }
 
 // The same where c is none of A-Z 0-9.
+#[tactic(auto, using(crate::proofs::Faults::name_passes))]
 fn no_name(c: u8) -> u8
     ensures { nat_lt result 128 ≡ is_name_character c }
 {
@@ -40,6 +43,7 @@ fn no_name(c: u8) -> u8
 }
 
 // 1 for a digit, else 0.
+#[tactic(auto, using(crate::proofs::Faults::digit_counts))]
 fn digits_of(c: u8) -> u8
     ensures { result ≡ (if is_digit c then 1 else 0) }
 {
@@ -47,57 +51,45 @@ fn digits_of(c: u8) -> u8
 }
 
 // Whether the two keys and the check are hex: 48 characters.
+// That the line has 71 bytes or more stands in four contracts: a struct for it would hold a reference to the line, and none may; its first 71 bytes as an array are not the line that these speak of.
 fn is_cipher_part(line: &[u8]) -> bool
     requires { 71 ≤ length line.now }
     ensures { result ≡ all_of is_hex (part 48 line.now 16) }
 {
-    let mut faults: u8 = 0;
-    let mut i: usize = 0;
-    while i < 48 {
-        faults = faults | no_hex(line[16 + i]);
-        i += 1;
+    let mut faults = 0;
+    for c in &line[16..64] {
+        faults |= no_hex(*c);
     }
     faults < 128
 }
 
-// Whether the comment is of printed characters: all from a place on.
+// Whether the comment is of printed characters: all from a place on. The loop is is_cipher_part's but for its test: one function of both would need a longer contract than it has lines.
 fn is_comment(line: &[u8], at: usize) -> bool
     requires { at ≤ length line.now }
     ensures { result ≡ all_of is_printable (part (length line.now - at) line.now at) }
 {
-    let n = line.len() - at;
-    let mut faults: u8 = 0;
-    let mut i: usize = 0;
-    while i < n {
-        faults = faults | outside(b' ', b'~', line[at + i]);
-        i += 1;
+    let mut faults = 0;
+    for c in &line[at..] {
+        faults |= outside(b' ', b'~', *c);
     }
     faults < 128
 }
 
 // Whether these are a century from 19 to 29, a month, and a day that every month has; of the pairs of digits of a date.
+#[tactic(auto, unfolding(crate::specs::Pairs::is_early))]
 fn is_early(pairs: u64) -> bool
     ensures { result ≡ is_early pairs }
 {
     let century = pairs / 0x1_0000_0000_0000 % 256;
-    if century < 19 {
-        return false;
-    }
-    if 29 < century {
+    if century < 19 || 29 < century {
         return false;
     }
     let month = pairs / 0x1_0000 % 256;
-    if month < 1 {
-        return false;
-    }
-    if 12 < month {
+    if month < 1 || 12 < month {
         return false;
     }
     let day = pairs % 256;
-    if day < 1 {
-        return false;
-    }
-    day <= 28
+    1 <= day && day <= 28
 }
 
 // Whether eight digits, which are the bytes of x, are a date. Ten times each digit and the next one fit in a byte: so every second byte has the number of two.
@@ -134,23 +126,16 @@ fn is_permit(line: &[u8]) -> bool
 }
 
 // A service level of 0 or 1 between commas, and no zero after them.
+#[tactic(auto, unfolding(cell_permit::specs::LineParts::is_level_part))]
 fn is_level_part(line: &[u8]) -> bool
     requires { 71 ≤ length line.now }
     ensures { result ≡ is_level_part line.now }
 {
-    if line[64] != b',' {
-        return false;
-    }
-    if line[65] / 2 != 24 {
-        return false;
-    }
-    if line[66] != b',' {
-        return false;
-    }
-    line[67] != b'0'
+    line[64] == b',' && b'0' <= line[65] && line[65] <= b'1' && line[66] == b',' && line[67] != b'0'
 }
 
 // How many digits the edition has.
+#[tactic(auto, using(crate::proofs::Shapes::counted))]
 fn edition_length(line: &[u8]) -> usize
     requires { 71 ≤ length line.now }
     ensures { result ≡ edition_length line.now }
@@ -200,12 +185,13 @@ pub fn is_line(line: &[u8]) -> bool
     is_server_part(line, edition_length(line))
 }
 
-// How long a line without a comment would be that a text begins with, by its edition; 0 where it has less than 74 bytes.
-pub fn plain_length(text: &[u8]) -> usize
+// How long a line without a comment would be that a text begins with, by its edition; none where it has less than 74 bytes.
+#[tactic(auto, unfolding(crate::specs::Plain::plain_length))]
+pub fn plain_length(text: &[u8]) -> Option<usize>
     ensures { result ≡ plain_length text.now }
 {
     if text.len() < 74 {
-        return 0;
+        return None;
     }
-    71 + edition_length(text)
+    Some(71 + edition_length(text))
 }

@@ -75,16 +75,6 @@ module _ (line : List ℕ) where
   unfolding fate_of
   is_kept good other = rw (other, good)
 
-  -- :ECS is the last
-  pub is_last_lem : is_ecs line ≡ true → fate_of line ≡ Last
-  unfolding fate_of
-  is_last_lem ended = rw ended
-
-  -- what is neither is left out
-  pub is_out : is_ecs line ≡ false → is_line line ≡ false → fate_of line ≡ Out
-  unfolding fate_of
-  is_out other bad = rw (other, bad)
-
   module _ (good : is_line line ≡ true) where
     -- a line has 64 bytes of permit alone
     pub line-long : 64 ≤ length line

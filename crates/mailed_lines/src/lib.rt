@@ -1,7 +1,7 @@
 // The lines of a mailed permit file: cut at LF, what is wrong with each, what becomes of it, and what the list says of it.
 #![tactic(auto)]
 
-ghost use Rattle.std.specs.Prelude.{◌≡◌, length};
+ghost use Rattle.std.specs.Prelude.{◌≡◌};
 ghost use Rattle.text.specs.Characters.{raised_text};
 ghost use Rattle.text.specs.Texts.{same_text};
 ghost use Rattle.mailed_lines.specs.Mailed.{line_of, unblanked, is_ecs, fate_of};
@@ -16,43 +16,31 @@ pub enum Fate {
     Out,
 }
 
-// How many of a text's bytes are the line's: all but a CR at its end.
-pub fn line_length(text: &[u8]) -> usize
-    ensures { result ≡ length (line_of text.now) }
+// The bytes of a text that are the line's: all but a CR at its end.
+pub fn line_of(text: &[u8]) -> &[u8]
+    ensures { (result.now ≡ line_of text.now) × (result.ref_ptr ≡ text.entry.ref_ptr) }
 {
-    let n = text.len();
-    if n == 0 {
-        return 0;
+    if let [line @ .., b'\r'] = text {
+        return line;
     }
-    if text[n - 1] == b'\r' { n - 1 } else { n }
+    text
 }
 
-// How many bytes a line has when the blanks at its end are gone.
-pub fn unblanked_length(line: &[u8]) -> usize
-    ensures { result ≡ length (unblanked line.now) }
+// What is left of a line when the blanks at its end are gone.
+pub fn unblanked(line: &[u8]) -> &[u8]
+    ensures { (result.now ≡ unblanked line.now) × (result.ref_ptr ≡ line.entry.ref_ptr) }
 {
-    let mut n = line.len();
-    while 0 < n {
-        if line[n - 1] != b' ' {
-            return n;
-        }
-        n -= 1;
+    match line.iter().rposition(|c| *c != b' ') {
+        Some(last) => &line[..last + 1],
+        None => &line[..0],
     }
-    0
 }
 
 // Whether a line has no small letter.
 pub fn is_raised(line: &[u8]) -> bool
     ensures { result ≡ same_text (raised_text line.now) line.now }
 {
-    let mut i: usize = 0;
-    while i < line.len() {
-        if text::characters::raised(line[i]) != line[i] {
-            return false;
-        }
-        i += 1;
-    }
-    true
+    line.iter().all(|c| text::characters::raised(*c) == *c)
 }
 
 // Whether a line is :ECS, in any case of its letters.
@@ -68,13 +56,13 @@ pub fn is_ecs(line: &[u8]) -> bool
 }
 
 // What becomes of a line whose blanks are gone.
+#[tactic(auto, unfolding(crate::specs::Mailed::fate_of))]
 pub fn fate_of(line: &[u8]) -> Fate
     ensures { result ≡ fate_of line.now }
 {
     if is_ecs(line) {
-        return Fate::Last;
-    }
-    if line_shape::is_line(line) {
+        Fate::Last
+    } else if line_shape::is_line(line) {
         Fate::Kept
     } else {
         Fate::Out

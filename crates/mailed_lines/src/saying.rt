@@ -4,76 +4,96 @@ ghost use Rattle.text.specs.Texts.{width, numeral, placed};
 ghost use Rattle.mailed_lines.specs.Saying.{faults_said, out_said};
 ghost use Rattle.mailed_lines.specs.Putting.{counted_if};
 
-// A line's count, of n digits, and what follows it.
-fn put_said(list: &mut [u8], at: usize, n: usize, count: u64, rest: &[u8]) -> usize
-    requires { n ≡ width count }
-    ensures { (result ≡ length (numeral count ++ rest.now))
-        × (list.new ≡ placed at (numeral count ++ rest.now) list.old) }
+// What is wrong with a line: no CR before its LF, blanks at its end, small letters.
+#[derive(Clone, Copy)]
+pub struct Faults {
+    pub eol: bool,
+    pub blank: bool,
+    pub case: bool,
+}
+
+// A line's count, and how many digits that has.
+#[derive(Clone, Copy)]
+struct Count {
+    number: u64,
+    digits: usize,
+    ghost counted: { digits ≡ width number },
+}
+
+impl Count {
+    fn of(number: u64) -> Count
+        ensures { result.number ≡ number }
+    {
+        Count {
+            number,
+            digits: text::writing::width(number),
+        }
+    }
+}
+
+// A line's count and what follows it.
+fn put_said(list: &mut [u8], at: usize, count: Count, rest: &[u8]) -> usize
+    ensures { (result ≡ length (numeral count.number ++ rest.now))
+        × (list.new ≡ placed at (numeral count.number ++ rest.now) list.old) }
 {
-    let size = n + rest.len();
+    let size = count.digits + rest.len();
     if octets::numbers::lies_within(list, at, size) {
-        text::writing::put_decimal(list, at, n, count);
-        text::writing::put_text(list, at + n, rest);
+        text::writing::put_decimal(list, at, count.digits, count.number);
+        text::writing::put_text(list, at + count.digits, rest);
     }
     size
 }
 
-// A line's count and what follows it.
+// The same of a count whose digits are not counted yet.
 pub fn put_counted(list: &mut [u8], at: usize, count: u64, rest: &[u8]) -> usize
     ensures { (result ≡ length (numeral count ++ rest.now))
         × (list.new ≡ placed at (numeral count ++ rest.now) list.old) }
 {
-    put_said(list, at, text::writing::width(count), count, rest)
+    put_said(list, at, Count::of(count), rest)
 }
 
-// The same where there is a fault, with a count of n digits.
-fn put_if(list: &mut [u8], at: usize, fault: bool, n: usize, count: u64, rest: &[u8]) -> usize
-    requires { n ≡ width count }
-    ensures { (result ≡ length (counted_if fault count rest.now))
-        × (list.new ≡ placed at (counted_if fault count rest.now) list.old) }
+// The same where there is a fault.
+#[tactic(auto, using(text::proofs::PlacedTexts::placed_none), unfolding(crate::specs::Putting::counted_if))]
+fn put_if(list: &mut [u8], at: usize, fault: bool, count: Count, rest: &[u8]) -> usize
+    ensures { (result ≡ length (counted_if fault count.number rest.now))
+        × (list.new ≡ placed at (counted_if fault count.number rest.now) list.old) }
 {
     if fault {
-        put_said(list, at, n, count, rest)
+        put_said(list, at, count, rest)
     } else {
         0
     }
 }
 
-// How long a list line is of a count of n digits and so many bytes after it, where there is a fault.
-fn length_if(fault: bool, n: usize, letters: usize) -> usize
-    requires { (n ≤ 20) × (letters ≤ 7) }
-    ensures { result ≡ cond fault (n + letters) 0 }
+// How long a list line is of a count and so many bytes after it, where there is a fault.
+fn length_if(fault: bool, count: Count, letters: usize) -> usize
+    requires { letters ≤ 7 }
+    ensures { result ≡ cond fault (width count.number + letters) 0 }
 {
-    if fault { n + letters } else { 0 }
+    if fault { count.digits + letters } else { 0 }
 }
 
 // A list line for each fault, which all lie within the list.
-fn put_each(list: &mut [u8], at: usize, eol: bool, blank: bool, case: bool, n: usize, count: u64)
-    requires n_value { n ≡ width count }
-    requires count_in_bounds { at + length (faults_said eol blank case count) ≤ length list.old }
-    ensures { list.new ≡ placed at (faults_said eol blank case count) list.old }
+fn put_each(list: &mut [u8], at: usize, faults: Faults, count: Count)
+    requires { at + length (faults_said faults.eol faults.blank faults.case count.number) ≤ length list.old }
+    ensures { list.new ≡ placed at (faults_said faults.eol faults.blank faults.case count.number) list.old }
 {
-    let second = at + put_if(list, at, eol, n, count, b" EOL\n");
-    let third = second + put_if(list, second, blank, n, count, b" BLANK\n");
-    put_if(list, third, case, n, count, b" CASE\n");
+    let second = at + put_if(list, at, faults.eol, count, b" EOL\n");
+    let third = second + put_if(list, second, faults.blank, count, b" BLANK\n");
+    put_if(list, third, faults.case, count, b" CASE\n");
 }
 
 // A list line for each fault of a line, in their order.
-pub fn put_faults(
-    list: &mut [u8],
-    at: usize,
-    eol: bool,
-    blank: bool,
-    case: bool,
-    count: u64,
-) -> usize
-    ensures { (result ≡ length (faults_said eol blank case count))
-        × (list.new ≡ placed at (faults_said eol blank case count) list.old) }
+pub fn put_faults(list: &mut [u8], at: usize, faults: Faults, count: u64) -> usize
+    ensures { (result ≡ length (faults_said faults.eol faults.blank faults.case count))
+        × (list.new ≡ placed at (faults_said faults.eol faults.blank faults.case count) list.old) }
 {
-    let n = text::writing::width(count);
-    let size = length_if(eol, n, 5) + length_if(blank, n, 7) + length_if(case, n, 6);
+    let count = Count::of(count);
+    let size = length_if(faults.eol, count, 5)
+        + length_if(faults.blank, count, 7)
+        + length_if(faults.case, count, 6);
     if octets::numbers::lies_within(list, at, size) {
-        put_each(list, at, eol, blank, case, n, count);
+        put_each(list, at, faults, count);
     }
     size
 }

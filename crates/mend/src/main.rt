@@ -1,7 +1,6 @@
 // The program mend: reads a mailed permit file, writes it mended to standard output, and to standard error what was wrong with it.
 #![tactic(auto)]
 
-use mending::Answer;
 use std::io;
 
 // Writes the first bytes of an output.
@@ -14,16 +13,14 @@ fn write_start(to: &impl Print, out: &[u8], size: usize) -> io::Result<()> {
 
 // Mends into these outputs and writes both, where they have the room, and says whether it did. The list is written even where the file could not be.
 fn write_both(rt: HostRuntime, input: &[u8], out: &mut [u8], list: &mut [u8]) -> io::Result<bool> {
-    match mending::print(input, out, list) {
-        Answer::Done(size) => {
-            let of_file = write_start(&rt.stdout(), out, size.file);
-            let of_list = write_start(&rt.stderr(), list, size.list);
-            of_file?;
-            of_list?;
-            Ok(true)
-        }
-        Answer::Refused(_) => Ok(false),
-    }
+    let Ok(size) = mending::print(input, out, list) else {
+        return Ok(false);
+    };
+    let of_file = write_start(&rt.stdout(), out, size.file);
+    let of_list = write_start(&rt.stderr(), list, size.list);
+    of_file?;
+    of_list?;
+    Ok(true)
 }
 
 // A list of 32,768 bytes or fewer.

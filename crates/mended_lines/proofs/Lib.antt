@@ -1,4 +1,3 @@
 pub mod TwoParts
 pub mod BothPut
-pub mod MeasuredLines
 pub mod LineGives

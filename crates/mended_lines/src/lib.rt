@@ -1,5 +1,6 @@
 // What each line of a mailed permit file gives: its part of the mended file and its part of the list, each put at a place of its output.
 // Each function answers how many bytes both have, whether or not they lie within their outputs: so empty outputs measure them.
+// C lends the two outputs one by one, and a contract names each: so they stay two arguments, and their places a third.
 #![tactic(auto)]
 
 ghost use Rattle.std.specs.Prelude.{◌≡◌, ◌++◌, length};
@@ -9,6 +10,7 @@ ghost use Rattle.mended_lines.specs.Gives.{header_gives, gives_by, unended_gives
 ghost use Rattle.mended_lines.specs.Giving.{given, out_after, list_after, cased, last_gives, added_said};
 
 use mailed_lines::Fate;
+use mailed_lines::saying::Faults;
 
 // Where the texts are put, in the mended file and in the list.
 #[derive(Clone, Copy)]
@@ -17,7 +19,7 @@ pub struct Places {
     pub list: usize,
 }
 
-// How many bytes a line gives of both, and whether lines after it are looked at.
+// How many bytes a line gives of both, and whether lines after it are looked at: a flag, since there are bytes of both either way.
 #[derive(Clone, Copy)]
 pub struct Given {
     pub file: usize,
@@ -25,7 +27,7 @@ pub struct Given {
     pub more: bool,
 }
 
-// Puts a text, with its letters raised where that is asked.
+// Puts a text, with its letters raised where that is asked: by a flag, since a closure that writes would need a contract longer than the test.
 fn put_cased(out: &mut [u8], at: usize, text: &[u8], raise: bool)
     ensures { out.new ≡ placed at (cased raise text.now) out.old }
 {
@@ -60,36 +62,41 @@ pub fn put_header_line(
         × ((out.new ≡ out_after (header_gives count text.now) at out.old)
         × (list.new ≡ list_after (header_gives count text.now) at list.old)) }
 {
-    let n = mailed_lines::line_length(text);
-    let k = mailed_lines::unblanked_length(&text[..n]);
-    let line = &text[..k];
-    let case = !mailed_lines::is_raised(line);
+    let line = mailed_lines::line_of(text);
+    let left = mailed_lines::unblanked(line);
+    let faults = Faults {
+        eol: line.len() == text.len(),
+        blank: left.len() < line.len(),
+        case: !mailed_lines::is_raised(left),
+    };
     Given {
-        file: put_two(out, at.file, line, true, b"\r\n"),
-        list: mailed_lines::saying::put_faults(list, at.list, n == text.len(), k < n, case, count),
+        file: put_two(out, at.file, left, true, b"\r\n"),
+        list: mailed_lines::saying::put_faults(list, at.list, faults, count),
         more: true,
     }
 }
 
-// The line :ECS, in any case of its letters, its blanks gone, and what stands after its LF, as it stands.
+// The line :ECS, in any case of its letters, its blanks gone, and what stands after its LF, as it stands; of its faults, small letters are looked for here.
 fn put_last(
     line: &[u8],
     after: &[u8],
-    eol: bool,
-    blank: bool,
+    faults: Faults,
     count: u64,
     out: &mut [u8],
     list: &mut [u8],
     at: Places,
 ) -> Given
-    ensures { (result ≡ given (last_gives eol blank count line.now after.now))
-        × ((out.new ≡ out_after (last_gives eol blank count line.now after.now) at out.old)
-        × (list.new ≡ list_after (last_gives eol blank count line.now after.now) at list.old)) }
+    ensures { (result ≡ given (last_gives faults.eol faults.blank count line.now after.now))
+        × ((out.new ≡ out_after (last_gives faults.eol faults.blank count line.now after.now) at out.old)
+        × (list.new ≡ list_after (last_gives faults.eol faults.blank count line.now after.now) at list.old)) }
 {
-    let case = !mailed_lines::is_raised(line);
+    let faults = Faults {
+        case: !mailed_lines::is_raised(line),
+        ..faults
+    };
     Given {
         file: put_two(out, at.file, b":ECS\r\n", false, after),
-        list: mailed_lines::saying::put_faults(list, at.list, eol, blank, case, count),
+        list: mailed_lines::saying::put_faults(list, at.list, faults, count),
         more: false,
     }
 }
@@ -107,19 +114,20 @@ pub fn put_ended(
         × ((out.new ≡ out_after (gives_by (fate_of (unblanked (line_of text.now))) count text.now after.now) at out.old)
         × (list.new ≡ list_after (gives_by (fate_of (unblanked (line_of text.now))) count text.now after.now) at list.old)) }
 {
-    let n = mailed_lines::line_length(text);
-    let line = &text[..n];
-    let k = mailed_lines::unblanked_length(line);
-    let left = &text[..k];
-    let eol = n == text.len();
-    let blank = k < n;
+    let line = mailed_lines::line_of(text);
+    let left = mailed_lines::unblanked(line);
+    let faults = Faults {
+        eol: line.len() == text.len(),
+        blank: left.len() < line.len(),
+        case: false,
+    };
     match mailed_lines::fate_of(left) {
         Fate::Kept => Given {
             file: put_two(out, at.file, left, false, b"\r\n"),
-            list: mailed_lines::saying::put_faults(list, at.list, eol, blank, false, count),
+            list: mailed_lines::saying::put_faults(list, at.list, faults, count),
             more: true,
         },
-        Fate::Last => put_last(left, after, eol, blank, count, out, list, at),
+        Fate::Last => put_last(left, after, faults, count, out, list, at),
         Fate::Out => {
             let listed = mailed_lines::saying::put_out(list, at.list, count, line);
             Given {
@@ -162,8 +170,7 @@ pub fn put_unended(
         × ((out.new ≡ out_after (unended_gives count next line.now) at out.old)
         × (list.new ≡ list_after (unended_gives count next line.now) at list.old)) }
 {
-    let k = mailed_lines::unblanked_length(line);
-    let left = &line[..k];
+    let left = mailed_lines::unblanked(line);
     if !mailed_lines::is_ecs(left) {
         text::writing::put_text(out, at.file, b":ECS\r\n");
         return Given {
@@ -172,11 +179,15 @@ pub fn put_unended(
             more: false,
         };
     }
-    let case = !mailed_lines::is_raised(left);
+    let faults = Faults {
+        eol: false,
+        blank: left.len() < line.len(),
+        case: !mailed_lines::is_raised(left),
+    };
     text::writing::put_text(out, at.file, b":ECS");
     Given {
         file: 4,
-        list: mailed_lines::saying::put_faults(list, at.list, false, k < line.len(), case, count),
+        list: mailed_lines::saying::put_faults(list, at.list, faults, count),
         more: false,
     }
 }

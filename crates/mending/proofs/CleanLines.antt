@@ -1,5 +1,6 @@
 -- A record without comment that stands as it should: it has no LF, and gives itself with its CR LF.
 -- Assumes nothing.
+use Rattle.std.specs.Prelude.{Some}
 use mathlib.Core.Path.{◌≡◌, refl, sym, ap, ap₂, ◌∙◌}
 use mathlib.Core.Bool.{Bool, true, false}
 use mathlib.Core.List.{List, [], ◌∷◌, ◌++◌, append_assoc}
@@ -27,8 +28,8 @@ use Rattle.mailed_lines.specs.Texts.{texts_of}
 use Rattle.mailed_lines.specs.Mailed.{unblanked}
 use Rattle.mailed_lines.proofs.CutTexts.{not_lf, never_empty, text_before}
 use Rattle.mailed_lines.proofs.Fates.{line_kept}
-use Rattle.mailed_lines.proofs.Lengths.{blanks_start, other-stays}
-use Rattle.mailed_lines.proofs.Lines.{line_before_cr, cr_at_end, unblanked_start}
+use Rattle.mailed_lines.proofs.Lengths.{unblanked_to}
+use Rattle.mailed_lines.proofs.Lines.{line_before_cr, cr_at_end}
 use Rattle.mailed_lines.proofs.SaidTexts.{none_said}
 use Rattle.mending.specs.Mending.{Mended, gives_of, mended_from}
 use Rattle.mending.specs.Walking.{first_gives, gives_at, CleanAt, Cleans}
@@ -191,9 +192,11 @@ module _ (file : List ℕ) (place r : ℕ) (clean : CleanAt file place r) where
       get_or-take n (drop place file) (length line - 1) 0 (omega (arith, line_size))
       ∙ get_or-drop place file (length line - 1) 0
       ∙ ap (λ (k : ℕ). get_or file k 0) last in
-      let all : length line ≡ length (unblanked line) =
-      other-stays line (length line) (blanks_start line) (omega (arith, line_size)) (λ blank. clean.no_blank (sym byte ∙ blank)) in
-      sym (unblanked_start line) ∙ ap (λ (k : ℕ). take k line) (sym all) ∙ take-length line
+      let whole : length line - 1 + 1 ≡ length line = omega (arith, line_size) in
+      sym
+      (unblanked_to line (length line - 1) (omega (arith, line_size)) (λ blank. clean.no_blank (sym byte ∙ blank)) (λ k after h. absurd (omega (arith, line_size))))
+      ∙ ap (λ (k : ℕ). take k line) whole
+      ∙ take-length line
 
   -- so it gives itself, and nothing is said
   pub clean_gives : (count : ℕ) → gives_at file place count ≡ record { file = line ++ line_end; list = []; more = true }
@@ -219,15 +222,16 @@ module _ (file : List ℕ) (place r : ℕ) (clean : CleanAt file place r) where
   clean_within = (omega (arith, clean.size), omega (arith, clean.size, clean.within))
 
 -- how long a line without a comment is at most: the text has as many bytes
-pub plain_within : (text : List ℕ) (n : ℕ) → n ≡ plain_length text → (n ≤ length text) × (n ≤ 74)
+pub plain_within : (text : List ℕ) (n : ℕ) → plain_length text ≡ Some n → (n ≤ length text) × ((71 ≤ n) × (n ≤ 74))
 unfolding plain_length
 plain_within text n is =
     either (leb 74 (length text))
     (λ long.
     let few = edition_few text (edition_length text) refl in
-    let size : n ≡ 71 + edition_length text = rw long at is in
-    (omega (arith, few, size, leb-true 74 (length text) long), omega (arith, few, size)))
-    (λ short. let none : n ≡ 0 = rw short at is in (omega (arith, none), omega (arith, none)))
+    let same = rw long at is in
+    let size : n ≡ 71 + edition_length text = cc in
+    (omega (arith, few, size, leb-true 74 (length text) long), (omega (arith, size), omega (arith, few, size))))
+    (λ short. let none = rw short at is in cc)
 
 -- as the code finds it
 pub clean_found : (file : List ℕ) (place n : ℕ) → is_line (take (place + n - place) (drop place file)) ≡ true → place + n + 2 ≤ length file

@@ -1,11 +1,12 @@
 -- The first three texts of a file, by their ends: what they give before the rest, and when they are a good header.
 -- Assumes nothing.
+use Rattle.std.specs.Prelude.{Some, None}
 use mathlib.Core.Path.{◌≡◌, refl, sym, ap, subst, ◌∙◌}
 use mathlib.Core.Bool.{Bool, true, false, cond, not, ◌&&◌}
 use mathlib.Core.List.{List, [], ◌∷◌, ◌++◌, append_assoc}
 use Prim.Native.Nat.{ℕ, suc, ◌+◌, ◌-◌, ◌≤◌, ◌<◌}
 use native.Mathlib.Omega.{arith}
-use borrow.Author.Tests.{le-ltb, lt-ltb, ltb-true, ltb-false}
+use borrow.Author.Tests.{lt-ltb, ltb-true, ltb-false}
 use lib.Dec.{ltb}
 use lib.ListN.{length, take, drop, length-append, length-take, length-map}
 use lib.Seq.{take-append-le}
@@ -24,9 +25,8 @@ use Rattle.mailed_lines.proofs.Lines.{line_short, unblanked_short}
 use Rattle.mailed_lines.proofs.SaidTexts.{faults_length}
 use Rattle.mended_lines.specs.Gives.{header_gives}
 use Rattle.mending.specs.Mending.{Mended, mended_from, mended_texts, mended_of, is_mended}
-use Rattle.mending.specs.Walking.{ends_of, header_ends, first_text, second_text, third_text, header_of, later_of}
+use Rattle.mending.specs.Walking.{ends_of, ended_at, header_ends, first_text, second_text, third_text, header_of, later_of}
 use Rattle.mending.specs.declared.header.Ends.{Ends}
-use Rattle.mending.specs.declared.header.Header.TheVariants.{Three, Fewer}
 use Rattle.mending.proofs.Again.{header_line, headed}
 use Rattle.mending.proofs.GoodHeaders.{header_sizes}
 
@@ -39,16 +39,16 @@ no_header : is_header [] ≡ false
 no_header = either (is_header []) (λ good. absurd (omega (arith, header_within [] good))) (λ bad. bad)
 
 -- the tests by which the ends are found
-three_made : (t : Bool) (found e : Ends) → cond t (Three found) Fewer ≡ Three e → (t ≡ true) × (e ≡ found)
+three_made : (t : Bool) (found e : Ends) → cond t (Some found) None ≡ Some e → (t ≡ true) × (e ≡ found)
 three_made true found e made = (refl, cc)
 three_made false found e made = (cc, cc)
 
-fewer_made : (t : Bool) (found : Ends) → cond t (Three found) Fewer ≡ Fewer → t ≡ false
+fewer_made : (t : Bool) (found : Ends) → cond t (Some found) None ≡ None → t ≡ false
 fewer_made true found made = cc
 fewer_made false found made = refl
 
 -- three texts that LF ends
-module _ (file : List ℕ) (e : Ends) (made : header_ends file ≡ Three e) where
+module _ (file : List ℕ) (e : Ends) (made : header_ends file ≡ Some e) where
   abbrev first : ℕ
   first = text_ends file 0
 
@@ -247,7 +247,7 @@ module _ (file : List ℕ) where
             (omega (arith, text_ends_within file at within, ltb-false (text_ends file at) (length file) whole))),
       ))
 
-  pub fewer : header_ends file ≡ Fewer → is_mended file ≡ false
+  pub fewer : header_ends file ≡ None → is_mended file ≡ false
   unfolding header_ends ends_of is_mended mended_of
   fewer made =
       let none = fewer_made (ltb first (length file) && ltb second (length file) && ltb third (length file)) (ends_of file) made in
@@ -266,46 +266,58 @@ module _ (file : List ℕ) where
       third : ℕ
       third = text_ends file (text_ends file (text_ends file 0 + 1) + 1)
 
--- the ends as they are looked for, one after the other
-module _ (file : List ℕ) (first : ℕ) (one : first ≡ text_ends file 0) where
-  pub stop_first : first ≡ length file → header_ends file ≡ Fewer
+-- the end of one of them, as it is looked for
+module _ (file : List ℕ) (place end : ℕ) where
+  pub ended_is : ended_at file place ≡ Some end → (ltb (text_ends file place) (length file) ≡ true) × (end ≡ text_ends file place)
+  unfolding ended_at
+  ended_is found =
+      either (ltb (text_ends file place) (length file))
+      (λ more. (more, let same = rw more at found in cc))
+      (λ whole. let none = rw whole at found in cc)
+
+  pub ended_within : ended_at file place ≡ Some end → end + 1 ≤ length file
+  ended_within found =
+      let is = ended_is found in
+      omega (arith, ltb-true (text_ends file place) (length file) is.0, is.1)
+
+pub not_ended : (file : List ℕ) (place : ℕ) → ended_at file place ≡ None → ltb (text_ends file place) (length file) ≡ false
+unfolding ended_at
+not_ended file place none =
+    either (ltb (text_ends file place) (length file))
+    (λ more. let found = rw more at none in cc)
+    (λ whole. whole)
+
+-- all three, one after the other
+module _ (file : List ℕ) where
+  pub stop_first : ended_at file 0 ≡ None → header_ends file ≡ None
   unfolding header_ends ends_of
-  stop_first whole = rw (← one, le-ltb first (length file) (omega (arith, whole)))
+  stop_first none = rw (not_ended file 0 none)
 
-  module _ (more : first ≡ length file → ⊥) where
-    pub first_within : first + 1 ≤ length file
-    first_within = omega (arith, one, text_ends_within file 0 (omega arith))
+  module _ (first : ℕ) (one : ended_at file 0 ≡ Some first) where
+    pub stop-second : ended_at file (first + 1) ≡ None → header_ends file ≡ None
+    unfolding header_ends ends_of
+    stop-second none = rw ((ended_is file 0 first one).0, ← (ended_is file 0 first one).1, not_ended file (first + 1) none)
 
-    module _ (second : ℕ) (two : second ≡ text_ends file (first + 1)) where
-      pub stop-second : second ≡ length file → header_ends file ≡ Fewer
+    module _ (second : ℕ) (two : ended_at file (first + 1) ≡ Some second) where
+      pub stop-third : ended_at file (second + 1) ≡ None → header_ends file ≡ None
       unfolding header_ends ends_of
-      stop-second whole = rw (← one, ← two, le-ltb second (length file) (omega (arith, whole)), lt-ltb first (length file) (omega (arith, first_within)))
+      stop-third none =
+          rw (
+            (ended_is file 0 first one).0,
+            ← (ended_is file 0 first one).1,
+            (ended_is file (first + 1) second two).0,
+            ← (ended_is file (first + 1) second two).1,
+            not_ended file (second + 1) none,
+          )
 
-      module _ (further : second ≡ length file → ⊥) where
-        pub second-within : second + 1 ≤ length file
-        second-within = omega (arith, two, text_ends_within file (first + 1) first_within)
-
-        module _ (third : ℕ) (three : third ≡ text_ends file (second + 1)) where
-          pub stop-third : third ≡ length file → header_ends file ≡ Fewer
-          unfolding header_ends ends_of
-          stop-third whole =
-              rw (
-                ← one,
-                ← two,
-                ← three,
-                le-ltb third (length file) (omega (arith, whole)),
-                lt-ltb first (length file) (omega (arith, first_within)),
-                lt-ltb second (length file) (omega (arith, second-within)),
-              )
-
-          pub found-three : (third ≡ length file → ⊥) → header_ends file ≡ Three (record { first = first; second = second; third = third })
-          unfolding header_ends ends_of
-          found-three last =
-              rw (
-                ← one,
-                ← two,
-                ← three,
-                lt-ltb third (length file) (omega (arith, three, text_ends_within file (second + 1) second-within)),
-                lt-ltb first (length file) (omega (arith, first_within)),
-                lt-ltb second (length file) (omega (arith, second-within)),
-              )
+      pub found-three : (third : ℕ) → ended_at file (second + 1) ≡ Some third → header_ends file ≡ Some (record { first = first; second = second; third = third })
+      unfolding header_ends ends_of
+      found-three third three =
+          rw (
+            (ended_is file 0 first one).0,
+            ← (ended_is file 0 first one).1,
+            (ended_is file (first + 1) second two).0,
+            ← (ended_is file (first + 1) second two).1,
+            (ended_is file (second + 1) third three).0,
+            ← (ended_is file (second + 1) third three).1,
+          )

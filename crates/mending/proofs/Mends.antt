@@ -1,5 +1,10 @@
 -- What mending comes to, by its tests, and what the program prints then.
 -- Assumes nothing.
+use Rattle.std.specs.Prelude.{Some, Result, Ok, Err}
+use Rattle.forms.specs.declared.refusals.Refusal.{Refusal}
+use Rattle.forms.specs.declared.refusals.Refusal.TheVariants.{Shape, Room}
+use Rattle.std.proofs.Common.{◌≢◌}
+use Rattle.std.specs.Result.{is_ok}
 use mathlib.Core.Path.{◌≡◌, refl, sym, ap, subst, ◌∙◌}
 use mathlib.Core.Bool.{Bool, true, false, cond}
 use mathlib.Core.List.{List, []}
@@ -19,11 +24,8 @@ use Rattle.mending.specs.Mending.{Mended, mended_of, is_mended, Outcome, done, r
 use Rattle.mending.specs.Answers.{answer_of, file_lent, list_lent}
 use Rattle.mending.specs.Program.{only, printed, printing, refusal_printed}
 use Rattle.mending.specs.Walking.{header_ends, header_of, size_of, later_of, fits, answered, size_after, sizes_of, SurelyFits, Walkable}
-use Rattle.mending.specs.declared.Answer.{Answer}
-use Rattle.mending.specs.declared.Answer.TheVariants as answer
 use Rattle.mending.specs.declared.Lengths.{Lengths}
 use Rattle.mending.specs.declared.header.Ends.{Ends}
-use Rattle.mending.specs.declared.header.Header.TheVariants.{Three}
 use Rattle.mending.proofs.HeaderTexts.{ends_rise, header_and_later, good-place}
 use Rattle.mending.proofs.Rooms.{file_room_lem, list_room_lem}
 
@@ -31,10 +33,10 @@ use Rattle.mending.proofs.Rooms.{file_room_lem, list_room_lem}
 abbrev pub room_of : List ℕ → List ℕ → Lengths
 room_of out list = record { file = length out; list = length list }
 
--- the test by which a walk answers
-refused_made : (t : Bool) (size : Lengths) (n : ℕ) → cond t (answer.Done size) (answer.Refused 108) ≡ answer.Refused n → (t ≡ false) × (n ≡ 108)
-refused_made true size n made = (cc, cc)
-refused_made false size n made = (refl, cc)
+-- a walk's answer is a refusal where its test fails
+told_ok : (t : Bool) (size : Lengths) → is_ok {E = Refusal} (cond t (Ok size) (Err Room)) ≡ t
+told_ok true size = refl
+told_ok false size = refl
 
 -- mending by its tests
 module _ (file out list : List ℕ) where
@@ -55,23 +57,19 @@ module _ (file out list : List ℕ) where
     comes-done fit = rw (good, fit)
 
 -- what a call answers and leaves in the outputs
-abbrev pub Mends : List ℕ → List ℕ → List ℕ → Answer → List ℕ → List ℕ → Type 0
+abbrev pub Mends : List ℕ → List ℕ → List ℕ → Result Lengths Refusal → List ℕ → List ℕ → Type 0
 Mends file out list a out₁ list₁ =
     (a ≡ answer_of (mending file (length out) (length list)))
     × ((out₁ ≡ file_lent (mending file (length out) (length list)) out) × (list₁ ≡ list_lent (mending file (length out) (length list)) list))
 
-pub mends_108 : (file out list : List ℕ) → is_mended file ≡ true → fits (sizes_of (mended_of file)) (room_of out list) ≡ false → Mends file out list (answer.Refused 108) out list
+pub mends_108 : (file out list : List ℕ) → is_mended file ≡ true → fits (sizes_of (mended_of file)) (room_of out list) ≡ false → Mends file out list (Err Room) out list
 mends_108 file out list good long = rw (comes-108 file out list good long) (refl, (refl, refl))
 
-pub mends_12 : (file out list : List ℕ) → is_mended file ≡ false → Mends file out list (answer.Refused 12) out list
+pub mends_12 : (file out list : List ℕ) → is_mended file ≡ false → Mends file out list (Err Shape) out list
 mends_12 file out list bad = rw (comes_12 file out list bad) (refl, (refl, refl))
 
-done_made : (t : Bool) (size other : Lengths) → cond t (answer.Done size) (answer.Refused 108) ≡ answer.Done other → t ≡ true
-done_made true size other made = refl
-done_made false size other made = cc
-
 -- a file with a good header
-module _ (file : List ℕ) (e : Ends) (made : header_ends file ≡ Three e) (good : is_mended file ≡ true) where
+module _ (file : List ℕ) (e : Ends) (made : header_ends file ≡ Some e) (good : is_mended file ≡ true) where
   abbrev header : Mended
   header = header_of file e
 
@@ -106,17 +104,13 @@ module _ (file : List ℕ) (e : Ends) (made : header_ends file ≡ Three e) (goo
         }
 
   -- what the measure says
-  module _ (room : Lengths) (at : Places) (sized : at ≡ size_of header) (a : Answer) (is : a ≡ answered room (size_after at later)) where
+  module _ (room : Lengths) (at : Places) (sized : at ≡ size_of header) (a : Result Lengths Refusal) (is : a ≡ answered room (size_after at later)) where
     all-measured : a ≡ answered room (sizes_of whole)
     all-measured = is ∙ ap (λ (p : Places). answered room (size_after p later)) sized ∙ ap (answered room) sizes_whole
 
-    pub measured-fits : (size : Lengths) → a ≡ answer.Done size → true ≡ fits (sizes_of whole) room
+    pub measured_ok : is_ok a ≡ fits (sizes_of whole) room
     unfolding answered
-    measured-fits size told = sym (done_made (fits (sizes_of whole) room) (sizes_of whole) size (sym all-measured ∙ told))
-
-    pub measured-long : (n : ℕ) → a ≡ answer.Refused n → false ≡ fits (sizes_of whole) room
-    unfolding answered
-    measured-long n told = sym (refused_made (fits (sizes_of whole) room) (sizes_of whole) n (sym all-measured ∙ told)).0
+    measured_ok = ap is_ok all-measured ∙ told_ok (fits (sizes_of whole) room) (sizes_of whole)
 
   -- every file of its size fits
   pub sure_fits : (room : Lengths) → SurelyFits (length file) room → true ≡ fits (sizes_of whole) room
@@ -187,7 +181,7 @@ module _ (file : List ℕ) (e : Ends) (made : header_ends file ≡ Three e) (goo
             ∙ placed_start whole.list list list-fits
             ∙ ap (λ (o : Outcome). list_lent o list) (sym (comes-done file out list good fit))
 
-        pub walked : (at : Places) → at ≡ size_of header → (a : Answer) (out₂ list₂ : List ℕ)
+        pub walked : (at : Places) → at ≡ size_of header → (a : Result Lengths Refusal) (out₂ list₂ : List ℕ)
             → (a ≡ answered (room_of out list) (size_after at later)) × ((out₂ ≡ placed at.file later.file out₁) × (list₂ ≡ placed at.list later.list list₁))
             → Mends file out list a out₂ list₂
         walked at sized a out₂ list₂ put = (
@@ -222,55 +216,38 @@ module _ (input out list : List ℕ) where
 
 -- an answer that is a refusal with 12, or another answer, tells of the header
 module _ (file out list : List ℕ) where
-  abbrev answers : Answer
+  abbrev answers : Result Lengths Refusal
   answers = answer_of (mending file (length out) (length list))
 
-  refused_good : is_mended file ≡ true → (n : ℕ) → answers ≡ answer.Refused n → n ≡ 108
-  refused_good good n is =
+  refused_good : is_mended file ≡ true → (r : Refusal) → answers ≡ Err r → r ≡ Room
+  refused_good good r is =
       either (fits (sizes_of (mended_of file)) (room_of out list))
-      (λ fit. no_refusal (sizes_of (mended_of file)) n (sym (ap answer_of (comes-done file out list good fit)) ∙ is))
-      (λ long. same_number 108 n (sym (ap answer_of (comes-108 file out list good long)) ∙ is))
-    where
-      no_refusal : (s : Lengths) (n : ℕ) → answer.Done s ≡ answer.Refused n → n ≡ 108
-      no_refusal s n same = cc
+      (λ fit. let same = sym (ap answer_of (comes-done file out list good fit)) ∙ is in cc)
+      (λ long. let same = sym (ap answer_of (comes-108 file out list good long)) ∙ is in cc)
 
-      same_number : (m n : ℕ) → answer.Refused m ≡ answer.Refused n → n ≡ m
-      same_number m n same = cc
-
-  pub told_bad : (n : ℕ) → answers ≡ answer.Refused n → n ≡ 12 → is_mended file ≡ false
-  told_bad n is twelve =
-      either (is_mended file) (λ good. absurd (omega (arith, twelve, refused_good good n is))) (λ bad. bad)
+  pub told_bad : answers ≡ Err Shape → is_mended file ≡ false
+  told_bad is =
+      either (is_mended file) (λ good. let same = refused_good good Shape is in cc) (λ bad. bad)
 
   -- and the outputs are as they were
-  pub told_lent : (n : ℕ) → answers ≡ answer.Refused n → n ≡ 12
+  pub told_lent : answers ≡ Err Shape
       → (file_lent (mending file (length out) (length list)) out ≡ out) × (list_lent (mending file (length out) (length list)) list ≡ list)
-  told_lent n is twelve = rw (comes_12 file out list (told_bad n is twelve)) (refl, refl)
+  told_lent is = rw (comes_12 file out list (told_bad is)) (refl, refl)
 
-  pub told_good : (n : ℕ) → answers ≡ answer.Refused n → (n ≡ 12 → ⊥) → is_mended file ≡ true
-  told_good n is other =
+  pub told_good : answers ≢ Err Shape → is_mended file ≡ true
+  told_good other =
       either (is_mended file) (λ good. good)
-      (λ bad. absurd (other (number n (sym (ap answer_of (comes_12 file out list bad)) ∙ is))))
-    where
-      number : (n : ℕ) → answer.Refused 12 ≡ answer.Refused n → n ≡ 12
-      number n same = cc
-
-  pub told_done_good : (s : Lengths) → answers ≡ answer.Done s → is_mended file ≡ true
-  told_done_good s is =
-      either (is_mended file) (λ good. good)
-      (λ bad. never s (sym (ap answer_of (comes_12 file out list bad)) ∙ is))
-    where
-      never : (s : Lengths) → answer.Refused 12 ≡ answer.Done s → is_mended file ≡ true
-      never s same = cc
+      (λ bad. absurd (other (ap answer_of (comes_12 file out list bad))))
 
 -- a refusal in words: too long for the list, or at its start
 module _ (words list : List ℕ) where
   pub words_short : length list < length words
-      → (answer.Refused 108 ≡ answer_of (refusal_printed words (length list))) × (list ≡ list_lent (refusal_printed words (length list)) list)
+      → (Err Room ≡ answer_of (refusal_printed words (length list))) × (list ≡ list_lent (refusal_printed words (length list)) list)
   unfolding refusal_printed
   words_short short = rw (lt-leb (length words) (length list) short) (refl, refl)
 
   pub words_put : length words ≤ length list → (list₁ : List ℕ) → list₁ ≡ placed 0 words list
-      → (answer.Done (record { file = 0; list = length words }) ≡ answer_of (refusal_printed words (length list)))
+      → (Ok (record { file = 0; list = length words }) ≡ answer_of (refusal_printed words (length list)))
       × (list₁ ≡ list_lent (refusal_printed words (length list)) list)
   unfolding refusal_printed
   words_put fits list₁ put = rw (le-leb (length words) (length list) fits) (refl, put ∙ placed_start words list fits)
@@ -280,49 +257,42 @@ unfolding refusal_printed
 words_leave words out room = either (leb (length words) room) (λ fits. rw fits refl) (λ short. rw short refl)
 
 -- what is printed into both outputs
-abbrev pub Printed : List ℕ → List ℕ → List ℕ → Answer → List ℕ → List ℕ → Type 0
+abbrev pub Printed : List ℕ → List ℕ → List ℕ → Result Lengths Refusal → List ℕ → List ℕ → Type 0
 Printed input out list a out₁ list₁ =
     (a ≡ answer_of (printing input (length out) (length list)))
     × ((out₁ ≡ file_lent (printing input (length out) (length list)) out) × (list₁ ≡ list_lent (printing input (length out) (length list)) list))
 
 module _ (input out list : List ℕ) where
   -- a refusal in words leaves the file's output as it is
-  words_printed : (words : List ℕ) → printing input (length out) (length list) ≡ refusal_printed words (length list) → (a : Answer) (list₁ : List ℕ)
+  words_printed : (words : List ℕ) → printing input (length out) (length list) ≡ refusal_printed words (length list) → (a : Result Lengths Refusal) (list₁ : List ℕ)
       → (a ≡ answer_of (refusal_printed words (length list))) × (list₁ ≡ list_lent (refusal_printed words (length list)) list)
       → Printed input out list a out list₁
   words_printed words is a list₁ put = rw is (put.0, (words_leave words out (length list), put.1))
 
-  pub printed_103 : 65536 < length input → (a : Answer) (list₁ : List ℕ)
+  pub printed_103 : 65536 < length input → (a : Result Lengths Refusal) (list₁ : List ℕ)
       → (a ≡ answer_of (refusal_printed (ascii "refused 103\n") (length list))) × (list₁ ≡ list_lent (refusal_printed (ascii "refused 103\n") (length list)) list)
       → Printed input out list a out list₁
   printed_103 long = words_printed (ascii "refused 103\n") (prints_103 input out list long)
 
-  module _ (small : length input ≤ 65536) (out₁ list₁ : List ℕ) (a : Answer) (mends : Mends input out list a out₁ list₁) where
+  module _ (small : length input ≤ 65536) (out₁ list₁ : List ℕ) (a : Result Lengths Refusal) (mends : Mends input out list a out₁ list₁) where
     -- mended, or no room
     same-printed : is_mended input ≡ true → Printed input out list a out₁ list₁
     same-printed good = rw (prints-mended input out list small good) mends
 
-    pub printed-done : (size : Lengths) → a ≡ answer.Done size → Printed input out list (answer.Done size) out₁ list₁
-    printed-done size is =
-        let all = same-printed (told_done_good input out list size (sym mends.0 ∙ is)) in
-        (sym is ∙ all.0, all.1)
-
-    pub printed-108 : (n : ℕ) → a ≡ answer.Refused n → (n ≡ 12 → ⊥) → Printed input out list (answer.Refused n) out₁ list₁
-    printed-108 n is other =
-        let all = same-printed (told_good input out list n (sym mends.0 ∙ is) other) in
-        (sym is ∙ all.0, all.1)
+    -- of every answer but that there is no good header
+    pub printed-mended : a ≢ Err Shape → Printed input out list a out₁ list₁
+    printed-mended other = same-printed (told_good input out list (λ is. other (mends.0 ∙ is)))
 
     -- no good header
-    module _ (n : ℕ) (is : a ≡ answer.Refused n) (twelve : n ≡ 12) where
-      pub list-as-it-was : list₁ ≡ list
-      list-as-it-was = mends.1.1 ∙ (told_lent input out list n (sym mends.0 ∙ is) twelve).1
+    module _ (is : a ≡ Err Shape) where
+      lent : (file_lent (mending input (length out) (length list)) out ≡ out) × (list_lent (mending input (length out) (length list)) list ≡ list)
+      lent = told_lent input out list (sym mends.0 ∙ is)
 
-      pub printed-12 : (b : Answer) (list₂ : List ℕ)
+      pub printed-12 : (b : Result Lengths Refusal) (list₂ : List ℕ)
           → (b ≡ answer_of (refusal_printed (ascii "refused 12\n") (length list₁))) × (list₂ ≡ list_lent (refusal_printed (ascii "refused 12\n") (length list₁)) list₁)
           → Printed input out list b out₁ list₂
       printed-12 b list₂ put =
-          let lent = told_lent input out list n (sym mends.0 ∙ is) twelve in
           let all =
-          words_printed (ascii "refused 12\n") (prints-12 input out list small (told_bad input out list n (sym mends.0 ∙ is) twelve)) b list₂
-          (subst (λ (l : List ℕ). (b ≡ answer_of (refusal_printed (ascii "refused 12\n") (length l))) × (list₂ ≡ list_lent (refusal_printed (ascii "refused 12\n") (length l)) l)) list-as-it-was put) in
+          words_printed (ascii "refused 12\n") (prints-12 input out list small (told_bad input out list (sym mends.0 ∙ is))) b list₂
+          (subst (λ (l : List ℕ). (b ≡ answer_of (refusal_printed (ascii "refused 12\n") (length l))) × (list₂ ≡ list_lent (refusal_printed (ascii "refused 12\n") (length l)) l)) (mends.1.1 ∙ lent.1) put) in
           (all.0, (mends.1.0 ∙ lent.0 ∙ all.1.0, all.1.1))

@@ -1,5 +1,8 @@
 -- The mended file is read as its kept lines are, one by one, and gives no 12.
 -- Assumes nothing.
+use Rattle.std.specs.Prelude.{Result}
+use Rattle.forms.specs.declared.refusals.Refusal.{Refusal}
+use Rattle.cell_permit.specs.declared.Record.{Record}
 use mathlib.Core.Path.{◌≡◌, refl, sym, ap, fun_ext, ◌∙◌}
 use mathlib.Core.Bool.{true, false}
 use mathlib.Core.List.{List, [], ◌∷◌, ◌++◌, map, append_assoc}
@@ -14,7 +17,6 @@ use Rattle.text.specs.Texts.{same_text, onto}
 use Rattle.text.proofs.SameTexts.{same_true}
 use Rattle.cell_permit.specs.CellPermit.{ship_words, line_end}
 use Rattle.cell_permit.specs.Line.{is_line, read_with, given_number, read_line, line_number}
-use Rattle.cell_permit.specs.declared.Line.{Line}
 use Rattle.cell_permit.proofs.LineNumbers.{shape_no_12}
 use Rattle.file_lines.specs.Lines.{ecs}
 use Rattle.file_lines.specs.EncPart.{lines_of, enc_lines, is_closed}
@@ -144,12 +146,12 @@ no_twelve hw today days file given good =
     let read = read_good hw today days given in (
       λ place.
           given_good hw today days (mended_of file).file place (given_number hw today days) refl given
-          ∙ ap (λ (r : List ℕ → Line). step_by r (mended_of file).file place) (sym read),
+          ∙ ap (λ (r : List ℕ → Result Record Refusal). step_by r (mended_of file).file place) (sym read),
       reads-count read,
     )
   where
     reads-count : read_line hw today days ≡ read_with (ship_words hw) today days → count_of is_twelve (enc_answers (read_line hw today days) (mended_of file).file) ≡ 0
     reads-count read =
-        ap (λ (r : List ℕ → Line). count_of is_twelve (enc_answers r (mended_of file).file)) read
+        ap (λ (r : List ℕ → Result Record Refusal). count_of is_twelve (enc_answers r (mended_of file).file)) read
         ∙ ap (count_of is_twelve) (reads_as_kept (read_with (ship_words hw) today days) file good)
         ∙ none_twelve (ship_words hw) today days (kept_lines file) (kept_shaped (drop 3 (texts_of file)))

@@ -1,5 +1,7 @@
 -- How long a mended file and its list are at most, line by line and as a whole.
 -- Assumes nothing.
+use Rattle.std.specs.Prelude.{Option, Some, None}
+use Rattle.mending.specs.declared.header.Ends.{Ends}
 use mathlib.Core.Path.{◌≡◌, refl, sym, ap, ◌∙◌}
 use mathlib.Core.Bool.{true, false, not}
 use mathlib.Core.List.{List, [], ◌∷◌, ◌++◌}
@@ -29,8 +31,6 @@ use Rattle.mending.specs.Mending.{gives_of, mended_from, mended_of, is_mended}
 use Rattle.mending.specs.Program.{printed}
 use Rattle.mending.specs.Enough.{FileRoom, ListRoom, RoomEnough}
 use Rattle.mending.specs.Walking.{header_ends, header_of, later_of}
-use Rattle.mending.specs.declared.header.Header.{Header}
-use Rattle.mending.specs.declared.header.Header.TheVariants.{Three, Fewer}
 use Rattle.mending.proofs.HeaderTexts.{header_list, fewer, ends_rise, header_and_later, good-size, good-place}
 
 -- the bytes of texts, one and more of which follow it
@@ -165,8 +165,8 @@ module _ (file : List ℕ) (place : ℕ) (within : place ≤ length file) where
       rw (← cut, left_length) at all
 
 module _ (file : List ℕ) (good : is_mended file ≡ true) where
-  file_by_header : (h : Header) → header_ends file ≡ h → length (mended_of file).file ≤ length file + length file / 72 + 9
-  file_by_header (Three e) made =
+  file_by_header : (h : Option Ends) → header_ends file ≡ h → length (mended_of file).file ≤ length file + length file / 72 + 9
+  file_by_header (Some e) made =
       omega (
         arith,
         ap length (header_and_later file e made).0 ∙ length-append (header_of file e).file (later_of file (e.third + 1)).file,
@@ -175,10 +175,10 @@ module _ (file : List ℕ) (good : is_mended file ≡ true) where
         ends_rise file e made,
         later_file file (e.third + 1) (ends_rise file e made).1.1,
       )
-  file_by_header Fewer made = absurd (never_both (is_mended file) (fewer file made) good)
+  file_by_header None made = absurd (never_both (is_mended file) (fewer file made) good)
 
-  list_by_header : length file ≤ 100000 → (h : Header) → header_ends file ≡ h → length (mended_of file).list ≤ 11 * length file
-  list_by_header small (Three e) made =
+  list_by_header : length file ≤ 100000 → (h : Option Ends) → header_ends file ≡ h → length (mended_of file).list ≤ 11 * length file
+  list_by_header small (Some e) made =
       omega (
         arith,
         ap length (header_and_later file e made).1 ∙ length-append (header_of file e).list (later_of file (e.third + 1)).list,
@@ -187,7 +187,7 @@ module _ (file : List ℕ) (good : is_mended file ≡ true) where
         ends_rise file e made,
         later_list file (e.third + 1) (ends_rise file e made).1.1 (good-place file e made good) small,
       )
-  list_by_header small Fewer made = absurd (never_both (is_mended file) (fewer file made) good)
+  list_by_header small None made = absurd (never_both (is_mended file) (fewer file made) good)
 
 pub file_room_lem : FileRoom
 file_room_lem file good = file_by_header file good (header_ends file) refl

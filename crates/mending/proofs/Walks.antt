@@ -1,5 +1,7 @@
 -- The mending between two turns: what was given and what is left are all that the texts give.
 -- Assumes nothing.
+use Rattle.std.specs.Prelude.{Ok, Err}
+use Rattle.forms.specs.declared.refusals.Refusal.TheVariants.{Room}
 use mathlib.Core.Path.{◌≡◌, refl, sym, ap, ◌∙◌}
 use mathlib.Core.Bool.{true, false}
 use mathlib.Core.List.{List, ◌++◌, append_assoc, append-nil}
@@ -15,7 +17,6 @@ use Rattle.text.proofs.PlacedTexts.{length-placed, placed_none, placed-next}
 use Rattle.mended_lines.specs.declared.Places.{Places}
 use Rattle.mending.specs.Mending.{Mended, nothing}
 use Rattle.mending.specs.Walking.{left_of, Turnable, Turned, later_of, fits, answered, size_after, Walkable}
-use Rattle.mending.specs.declared.Answer.TheVariants as answer
 use Rattle.mending.specs.declared.Lengths.{Lengths}
 use Rattle.mending.specs.declared.walking.Going.{Going}
 use Rattle.mending.proofs.Puts.{placed_empty}
@@ -91,7 +92,7 @@ module _ (file : List ℕ) (place : ℕ) (at : Places) (room : Lengths) (out₀ 
             (λ good. absurd (never_both (fits (size_so_far t) room) bad (whole-fits good)))
             (λ long. long)
 
-        pub refused-answer : answered room (size_after at all) ≡ answer.Refused 108
+        pub refused-answer : answered room (size_after at all) ≡ Err Room
         unfolding answered
         refused-answer = rw too_long
 
@@ -117,7 +118,7 @@ module _ (file : List ℕ) (place : ℕ) (at : Places) (room : Lengths) (out₀ 
         unfolding size_after
         end-size = rw (went.file_at, went.list_at, all-given.0, all-given.1)
 
-        pub done-answer : fits (size_so_far t) room ≡ true → answer.Done (size_so_far t) ≡ answered room (size_after at all)
+        pub done-answer : fits (size_so_far t) room ≡ true → Ok (size_so_far t) ≡ answered room (size_after at all)
         unfolding answered
         done-answer good = rw (← end-size, good)
 

@@ -1,13 +1,14 @@
 -- What a call that mends answers, and the two lent outputs afterwards.
-use Rattle.std.specs.Prelude.{List, ◌++◌, ℕ, length, drop}
+use Rattle.std.specs.Prelude.{List, ◌++◌, ℕ, Result, Ok, Err, length, drop}
+use Rattle.forms.specs.Refusals.{refusal_of}
+use Rattle.forms.specs.declared.refusals.Refusal.{Refusal}
 use Rattle.mending.specs.Mending.{Outcome, done, refused}
-use Rattle.mending.specs.declared.Answer.{Answer}
-use Rattle.mending.specs.declared.Answer.TheVariants as answer
+use Rattle.mending.specs.declared.Lengths.{Lengths}
 
 -- both lengths, or the refusal
-abbrev pub answer_of : Outcome → Answer
-answer_of (done m) = answer.Done (record { file = length m.file; list = length m.list })
-answer_of (refused n) = answer.Refused n
+abbrev pub answer_of : Outcome → Result Lengths Refusal
+answer_of (done m) = Ok (record { file = length m.file; list = length m.list })
+answer_of (refused n) = Err (refusal_of n)
 
 -- the file's output afterwards: the mended file at its start and nothing else, or as it was
 abbrev pub file_lent : Outcome → List ℕ → List ℕ

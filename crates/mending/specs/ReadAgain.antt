@@ -1,8 +1,9 @@
 -- What mending promises of reading: the mended file is read without 12, and its answers are those of the kept lines.
-use Rattle.std.specs.Prelude.{◌≡◌, Bool, true, List, [], ◌∷◌, map, ℕ, eqb, drop}
+use Rattle.std.specs.Prelude.{◌≡◌, Bool, true, List, [], ◌∷◌, map, ℕ, Result, eqb, drop}
 use Rattle.octets.specs.Every.{count_of}
+use Rattle.forms.specs.declared.refusals.Refusal.{Refusal}
 use Rattle.cell_permit.specs.Line.{given_number, read_line, line_number}
-use Rattle.cell_permit.specs.declared.Line.{Line}
+use Rattle.cell_permit.specs.declared.Record.{Record}
 use Rattle.permit_file.specs.File.{step_by, step_of}
 use Rattle.permit_file.specs.Answers.{enc_answers}
 use Rattle.mailed_lines.specs.Texts.{texts_of}
@@ -30,10 +31,10 @@ kept_lines file = kept_from (drop 3 (texts_of file))
 -- however a line is read, the answers of the mended file are those that the kept lines give, one by one and in their order
 abbrev pub ReadsAsKept : Type 0
 ReadsAsKept =
-    (read : List ℕ → Line) (file : List ℕ) → is_mended file ≡ true → enc_answers read (mended_of file).file ≡ map read (kept_lines file)
+    (read : List ℕ → Result Record Refusal) (file : List ℕ) → is_mended file ≡ true → enc_answers read (mended_of file).file ≡ map read (kept_lines file)
 
 -- an answer is the refusal 12
-abbrev pub is_twelve : Line → Bool
+abbrev pub is_twelve : Result Record Refusal → Bool
 is_twelve a = eqb (line_number a) 12
 
 -- for a good HW_ID, today and days, steps read each line as it is read by itself, and no answer of the mended file is 12

@@ -1,18 +1,16 @@
 -- The mending text by text: its header, one turn, and what a walk answers. For contracts inside the crate alone.
-use Rattle.std.specs.Prelude.{Bool, true, false, cond, ◌&&◌, ◌≡◌, List, [], ◌∷◌, ◌++◌, ◌⊎◌, ℕ, zero, suc, ◌+◌, ◌-◌, ◌*◌, ◌/◌, ◌^◌, ◌≤◌, ◌<◌, leb, ltb, length, get_or, take, drop}
+use Rattle.std.specs.Prelude.{Bool, true, false, cond, ◌&&◌, ◌≡◌, List, [], ◌∷◌, ◌++◌, Option, Some, None, Result, Ok, ◌⊎◌, ℕ, zero, suc, ◌+◌, ◌-◌, ◌*◌, ◌/◌, ◌^◌, ◌≤◌, ◌<◌, leb, ltb, length, get_or, take, drop}
 use Rattle.text.specs.Texts.{placed}
 use Rattle.cell_permit.specs.Line.{is_line}
+use Rattle.forms.specs.Refusals.{refused}
+use Rattle.forms.specs.declared.refusals.Refusal.{Refusal}
 use Rattle.file_lines.specs.Texts.{text_ends}
 use Rattle.mailed_lines.specs.Texts.{texts_of}
 use Rattle.mended_lines.specs.Gives.{Gives, header_gives}
 use Rattle.mended_lines.specs.declared.Places.{Places}
 use Rattle.mending.specs.Mending.{Mended, gives_of, nothing, mended_from}
-use Rattle.mending.specs.declared.Answer.{Answer}
-use Rattle.mending.specs.declared.Answer.TheVariants as answer
 use Rattle.mending.specs.declared.Lengths.{Lengths}
 use Rattle.mending.specs.declared.header.Ends.{Ends}
-use Rattle.mending.specs.declared.header.Header.{Header}
-use Rattle.mending.specs.declared.header.Header.TheVariants as header
 use Rattle.mending.specs.declared.walking.Going.{Going}
 
 -- the ends of the first three texts
@@ -23,12 +21,16 @@ ends_of file = record {
   third = text_ends file (text_ends file (text_ends file 0 + 1) + 1);
 }
 
--- where LF ends each of them
-unfoldable pub header_ends : List ℕ → Header
+-- where the text ends that begins at a place; none where no LF ends it
+unfoldable pub ended_at : List ℕ → ℕ → Option ℕ
+ended_at file place = cond (ltb (text_ends file place) (length file)) (Some (text_ends file place)) None
+
+-- where LF ends each of them; none where it ends fewer than three
+unfoldable pub header_ends : List ℕ → Option Ends
 header_ends file =
     cond (ltb (ends_of file).first (length file) && ltb (ends_of file).second (length file) && ltb (ends_of file).third (length file))
-    (header.Three (ends_of file))
-    header.Fewer
+    (Some (ends_of file))
+    None
 
 -- the bytes between two places
 abbrev pub text_between : List ℕ → ℕ → ℕ → List ℕ
@@ -127,8 +129,8 @@ unfoldable pub fits : Lengths → Lengths → Bool
 fits size room = leb size.file room.file && leb size.list room.list
 
 -- both lengths where they fit in the room, else 108
-unfoldable pub answered : Lengths → Lengths → Answer
-answered room size = cond (fits size room) (answer.Done size) (answer.Refused 108)
+unfoldable pub answered : Lengths → Lengths → Result Lengths Refusal
+answered room size = cond (fits size room) (Ok size) (refused 108)
 
 -- how long both are, put after these places
 unfoldable pub size_after : Places → Mended → Lengths

@@ -1,13 +1,12 @@
 // The header of a mailed file: its first three lines, which mended must be a good one.
-ghost use Rattle.std.specs.Prelude.{◌≡◌, ◌≤◌, length};
+ghost use Rattle.std.specs.Prelude.{◌≡◌, ◌≤◌, Some, length};
 ghost use Rattle.text.specs.Texts.{placed};
 ghost use Rattle.mending.specs.Putting.{Takes};
 ghost use Rattle.mended_lines.specs.Gives.{header_gives};
 ghost use Rattle.mended_lines.specs.Giving.{out_after, list_after};
 ghost use Rattle.mending.specs.Putting.{Room};
 ghost use Rattle.mending.specs.Mending.{is_mended};
-ghost use Rattle.mending.specs.Walking.{text_between, places_after, header_ends, header_of, size_of};
-ghost use Rattle.mending.specs.declared.header.Header.TheVariants.{Three};
+ghost use Rattle.mending.specs.Walking.{text_between, places_after, ended_at, header_ends, header_of, size_of};
 
 use file_lines::texts::text_ends;
 use mended_lines::Places;
@@ -20,30 +19,23 @@ pub(crate) struct Ends {
     pub third: usize,
 }
 
-// Three texts that LF ends, or fewer.
-#[derive(Clone, Copy)]
-pub(crate) enum Header {
-    Three(Ends),
-    Fewer,
+// Where the text ends that begins at a place; none where no LF ends it.
+#[tactic(auto, unfolding(crate::specs::Walking::ended_at))]
+fn ended_at(file: &[u8], place: usize) -> Option<usize>
+    ensures { result ≡ ended_at file.now place }
+{
+    let end = text_ends(file, place);
+    if end < file.len() { Some(end) } else { None }
 }
 
-// Finds them.
-pub(crate) fn header_ends(file: &[u8]) -> Header
+// Finds them; none where LF ends fewer than three.
+pub(crate) fn header_ends(file: &[u8]) -> Option<Ends>
     ensures { result ≡ header_ends file.now }
 {
-    let first = text_ends(file, 0);
-    if first == file.len() {
-        return Header::Fewer;
-    }
-    let second = text_ends(file, first + 1);
-    if second == file.len() {
-        return Header::Fewer;
-    }
-    let third = text_ends(file, second + 1);
-    if third == file.len() {
-        return Header::Fewer;
-    }
-    Header::Three(Ends {
+    let first = ended_at(file, 0)?;
+    let second = ended_at(file, first + 1)?;
+    let third = ended_at(file, second + 1)?;
+    Some(Ends {
         first,
         second,
         third,
@@ -74,8 +66,9 @@ fn put_one(
 }
 
 // Puts all three at the outputs' starts, and what is said of them; answers the places after both.
+// That e has the ends of this file's texts stands in three contracts here: a type for both would hold a reference to the file, and no type does, so that each contract shows what is lent.
 pub(crate) fn put_header(file: &[u8], e: Ends, out: &mut [u8], list: &mut [u8]) -> Places
-    requires file_value { header_ends file.now ≡ Three e }
+    requires file_value { header_ends file.now ≡ Some e }
     requires takes { Takes 0 (header_of file.now e).file out.old × Takes 0 (header_of file.now e).list list.old }
     ensures { (result ≡ size_of (header_of file.now e))
         × ((out.new ≡ placed 0 (header_of file.now e).file out.old)
@@ -89,7 +82,7 @@ pub(crate) fn put_header(file: &[u8], e: Ends, out: &mut [u8], list: &mut [u8]) 
 
 // How long they are, mended, and what is said of them.
 pub(crate) fn header_sizes(file: &[u8], e: Ends) -> Places
-    requires { header_ends file.now ≡ Three e }
+    requires { header_ends file.now ≡ Some e }
     ensures { result ≡ size_of (header_of file.now e) }
 {
     let mut no_file = [0u8; 0];
@@ -99,7 +92,7 @@ pub(crate) fn header_sizes(file: &[u8], e: Ends) -> Places
 
 // Whether they are a good header, which has 40 bytes.
 pub(crate) fn is_good(file: &[u8], e: Ends) -> bool
-    requires { header_ends file.now ≡ Three e }
+    requires { header_ends file.now ≡ Some e }
     ensures { result ≡ is_mended file.now }
 {
     let size = header_sizes(file, e);

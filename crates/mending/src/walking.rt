@@ -1,15 +1,16 @@
 // The texts after the header, mended one after the other.
-ghost use Rattle.std.specs.Prelude.{◌≡◌, [], ◌+◌, ◌≤◌, ◌<◌, ◌^◌, length};
+ghost use Rattle.std.specs.Prelude.{◌≡◌, [], ◌+◌, ◌≤◌, ◌<◌, ◌^◌, IfSome, length};
 ghost use Rattle.text.specs.Texts.{placed};
 ghost use Rattle.file_lines.specs.Texts.{text_ends};
 ghost use Rattle.mended_lines.specs.Giving.{given, out_after, list_after};
 ghost use Rattle.mending.specs.Walking.{gives_at, CleanAt, Cleans, Turnable, Turned, later_of, fits, answered, size_after, Walkable};
 
-use super::{Answer, Lengths};
+use super::Lengths;
+use forms::refusals::Refusal;
 use mended_lines::{Given, Places};
 
 // How far the mending has come: the place in the file, the count of the line that begins there, the bytes of both outputs,
-// and whether lines are still looked at.
+// and whether lines are still looked at: a flag, since the bytes of both are needed after the last line too.
 #[derive(Clone, Copy)]
 pub(crate) struct Going {
     pub place: usize,
@@ -61,32 +62,23 @@ fn turn_any(file: &[u8], out: &mut [u8], list: &mut [u8], t: Going) -> Going
     }
 }
 
-// How long the record is, with its CR LF, that stands at a place and needs no mending; 0 where there is none, or it has a comment.
-fn clean_length(file: &[u8], place: usize) -> usize
+// How long the record is, with its CR LF, that stands at a place and needs no mending; none where there is none, or it has a comment.
+fn clean_length(file: &[u8], place: usize) -> Option<usize>
     requires { place ≤ length file.now }
-    ensures { 0 < result → CleanAt file.now place result }
+    ensures { IfSome result (λ n. CleanAt file.now place n) }
 {
-    let n = line_shape::plain_length(&file[place..]);
-    if n == 0 {
-        return 0;
-    }
+    let n = line_shape::plain_length(&file[place..])?;
     let end = place + n;
     if file.len() - end < 2 {
-        return 0;
+        return None;
     }
-    if file[end] != b'\r' {
-        return 0;
-    }
-    if file[end + 1] != b'\n' {
-        return 0;
-    }
-    if file[end - 1] == b' ' {
-        return 0;
+    if file[end] != b'\r' || file[end + 1] != b'\n' || file[end - 1] == b' ' {
+        return None;
     }
     if line_shape::is_line(&file[place..end]) {
-        n + 2
+        Some(n + 2)
     } else {
-        0
+        None
     }
 }
 
@@ -102,13 +94,11 @@ fn clean_run(file: &[u8], place: usize) -> Run
     requires { (place ≤ length file.now) × (length file.now < 2 ^ 63) }
     ensures { (result.end ≤ length file.now) × Cleans file.now place result.lines result.end }
 {
-    let mut lines: u64 = 0;
+    let mut lines = 0;
     let mut end = place;
-    let mut n = clean_length(file, end);
-    while n != 0 {
+    while let Some(n) = clean_length(file, end) {
         lines += 1;
         end += n;
-        n = clean_length(file, end);
     }
     Run { lines, end }
 }
@@ -135,16 +125,14 @@ fn turn(file: &[u8], out: &mut [u8], list: &mut [u8], t: Going) -> Going
 }
 
 // Whether both are no longer than their room.
+#[tactic(auto, unfolding(crate::specs::Walking::fits))]
 fn fits(size: Lengths, room: Lengths) -> bool
     ensures { result ≡ fits size room }
 {
-    if room.file < size.file {
-        return false;
-    }
-    size.list <= room.list
+    size.file <= room.file && size.list <= room.list
 }
 
-// Puts what every text from a place on gives, after what the header gave; answers how long both are then, or 108 where that is more than their room.
+// Puts what every text from a place on gives, after what the header gave; answers how long both are then, or Room where that is more than their room.
 pub(crate) fn walk(
     file: &[u8],
     place: usize,
@@ -152,7 +140,7 @@ pub(crate) fn walk(
     list: &mut [u8],
     at: Places,
     room: Lengths,
-) -> Answer
+) -> Result<Lengths, Refusal>
     requires { Walkable file.now place at room out.old list.old }
     ensures { (result ≡ answered room (size_after at (later_of file.now place)))
         × ((out.new ≡ placed at.file (later_of file.now place).file out.old)
@@ -165,30 +153,28 @@ pub(crate) fn walk(
         list: at.list,
         more: true,
     };
-    while t.more {
-        if !fits(
-            Lengths {
-                file: t.file,
-                list: t.list,
-            },
-            room,
-        ) {
-            return Answer::Refused(108);
+    'turns: loop {
+        let size = Lengths {
+            file: t.file,
+            list: t.list,
+        };
+        if !fits(size, room) {
+            return Err(Refusal::Room);
+        }
+        if !t.more {
+            return Ok(size);
         }
         t = turn(file, out, list, t);
     }
-    let size = Lengths {
-        file: t.file,
-        list: t.list,
-    };
-    if !fits(size, room) {
-        return Answer::Refused(108);
-    }
-    Answer::Done(size)
 }
 
 // The same without outputs.
-pub(crate) fn measure(file: &[u8], place: usize, at: Places, room: Lengths) -> Answer
+pub(crate) fn measure(
+    file: &[u8],
+    place: usize,
+    at: Places,
+    room: Lengths,
+) -> Result<Lengths, Refusal>
     requires { Walkable file.now place at room [] [] }
     ensures { result ≡ answered room (size_after at (later_of file.now place)) }
 {

@@ -1,9 +1,8 @@
 -- `mending::has_room` meets its contract: by the size alone, or as it was measured.
 -- Assumes nothing.
-use native.Mathlib.Omega.{arith}
-use borrow.Author.Rules.{rules}
+use Rattle.std.proofs.Common.{◌∙◌, arith, rules}
 use Rattle.mending.proofs.HeaderTexts.{ends_rise}
-use Rattle.mending.proofs.Mends.{may-measure, measured-fits, measured-long, sure_fits}
+use Rattle.mending.proofs.Mends.{may-measure, measured_ok, sure_fits}
 use Rattle.mending.proofs.has_room.Goals as goal
 
 pub surely_fits-requires : goal.surely_fits-requires
@@ -24,14 +23,9 @@ measure-requires c =
     may-measure args.file.now args.e c.requires.file_value c.requires.file_value_2.0 args.room (omega (arith, c.well_formed.0)) c.requires.file_value_2.1.0 c.requires.file_value_2.1.1
     c.header_sizes.result c.header_sizes.ensures
 
-pub returns-in-Done : goal.returns-in-Done
-returns-in-Done c =
+pub returns : goal.returns
+returns c =
     let args = c.args in
-    measured-fits args.file.now args.e c.requires.file_value c.requires.file_value_2.0 args.room c.header_sizes.result c.header_sizes.ensures
-    c.measure.result c.measure.ensures c.in-Done.field-0 c.in-Done.is
-
-pub returns-in-Refused : goal.returns-in-Refused
-returns-in-Refused c =
-    let args = c.args in
-    measured-long args.file.now args.e c.requires.file_value c.requires.file_value_2.0 args.room c.header_sizes.result c.header_sizes.ensures
-    c.measure.result c.measure.ensures c.in-Refused.field-0 c.in-Refused.is
+    c.is_ok.ensures.value
+    ∙ measured_ok args.file.now args.e c.requires.file_value c.requires.file_value_2.0 args.room c.header_sizes.result c.header_sizes.ensures
+    c.measure.result c.measure.ensures

@@ -1,9 +1,8 @@
 -- `mailed_lines::saying::length_if` meets its contract.
 -- Assumes nothing.
+use Rattle.std.proofs.Common.{arith}
+use Rattle.mailed_lines.proofs.PutLines.{width_short}
 use Rattle.mailed_lines.proofs.saying.length_if.Goals as goal
 
-pub returns-then-fault : goal.returns-then-fault
-returns-then-fault c = rw c.if-fault.true
-
-pub returns-else-fault : goal.returns-else-fault
-returns-else-fault c = rw c.if-fault.false
+pub overflow_add-result : goal.overflow_add-result
+overflow_add-result c = record { fits = omega (arith, width_short c.args.count.number (omega arith), c.args.count.counted) }

@@ -1,45 +1,36 @@
 -- `mending::header::header_ends` meets its contract: three LFs are found, one after the other.
 -- Assumes nothing.
-use mathlib.Core.Path.{sym}
-use Prim.Native.Nat.{◌+◌, ◌≤◌}
-use lib.ListN.{length}
-use borrow.Author.Rules.{rules}
-use Rattle.mending.proofs.HeaderTexts.{stop_first, first_within, stop-second, second-within, stop-third, found-three}
+use Rattle.std.proofs.Common.{◌+◌, sym, rules}
+use Rattle.mending.proofs.HeaderTexts.{ended_within, stop_first, stop-second, stop-third, found-three}
 use Rattle.mending.proofs.header.header_ends.Goals as goal
-use Rattle.mending.proofs.header.header_ends.Goals.{Else-first-file, Else-second-file}
 
-pub returns-then-first-file : goal.returns-then-first-file
-returns-then-first-file c = sym (stop_first _ _ c.text_ends-first.ensures c.if-first-file.true)
-
-within_one : (c : Else-first-file) → c.text_ends-first.result + 1 ≤ length c.args.file.now
-within_one c = first_within _ _ c.text_ends-first.ensures c.if-first-file.false
+pub returns-in_err-first : goal.returns-in_err-first
+returns-in_err-first c =
+    let none = stop_first c.args.file.now (sym c.in_err-first.ensures) in
+    search rules
 
 pub overflow_add-first : goal.overflow_add-first
 overflow_add-first c =
-    let h = within_one (goal.at.overflow_add-first c).Else-first-file in
+    let h = ended_within c.args.file.now 0 c.in_ok-first.first (sym c.in_ok-first.ensures) in
     search rules
 
-pub returns-then-second-file : goal.returns-then-second-file
-returns-then-second-file c =
-    sym (stop-second _ _ c.text_ends-first.ensures c.if-first-file.false _ c.text_ends-second.ensures c.if-second-file.true)
-
-within_two : (c : Else-second-file) → c.text_ends-second.result + 1 ≤ length c.args.file.now
-within_two c =
-    second-within _ _ c.text_ends-first.ensures c.if-first-file.false _ c.text_ends-second.ensures c.if-second-file.false
+pub returns-in_err-second : goal.returns-in_err-second
+returns-in_err-second c =
+    let none = stop-second c.args.file.now _ (sym c.in_ok-first.ensures) (sym c.in_err-second.ensures) in
+    search rules
 
 pub overflow_add-second : goal.overflow_add-second
 overflow_add-second c =
-    let h = within_two (goal.at.overflow_add-second c).Else-second-file in
+    let h = ended_within c.args.file.now (c.in_ok-first.first + 1) c.in_ok-second.second (sym c.in_ok-second.ensures) in
     search rules
 
-pub returns-then-third-file : goal.returns-then-third-file
-returns-then-third-file c =
-    sym
-    (stop-third _ _ c.text_ends-first.ensures c.if-first-file.false _ c.text_ends-second.ensures c.if-second-file.false
-    _ c.text_ends-third.ensures c.if-third-file.true)
+pub returns-in_err-third : goal.returns-in_err-third
+returns-in_err-third c =
+    let none =
+    stop-third c.args.file.now _ (sym c.in_ok-first.ensures) _ (sym c.in_ok-second.ensures) (sym c.in_err-third.ensures) in
+    search rules
 
 pub returns : goal.returns
 returns c =
     sym
-    (found-three _ _ c.text_ends-first.ensures c.if-first-file.false _ c.text_ends-second.ensures c.if-second-file.false
-    _ c.text_ends-third.ensures c.if-third-file.false)
+    (found-three c.args.file.now _ (sym c.in_ok-first.ensures) _ (sym c.in_ok-second.ensures) _ (sym c.in_ok-third.ensures))
