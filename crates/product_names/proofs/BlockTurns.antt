@@ -1,6 +1,6 @@
 -- A block of names, as the rows are gone through: what holds at each row, and what that says at the end.
 -- Assumes nothing.
-use Rattle.std.proofs.Common.{◌≡◌, ℕ, ◌+◌, ◌-◌, ◌<◌, ◌≤◌, Bool, true, false, ◌||◌, ltb, List, [], ◌∷◌, ◌++◌, map, length, take, drop, set, replicate, sym, refl, ap, ◌∙◌, add-one, arith, length-set, drop_of_length-le, take-suc-set, ltb-false, ltb-true}
+use Rattle.std.proofs.Common.{◌≡◌, None, Some, ℕ, ◌+◌, ◌-◌, ◌<◌, ◌≤◌, Bool, true, false, ◌||◌, ltb, List, [], ◌∷◌, ◌++◌, map, length, take, drop, set, replicate, sym, refl, ap, ◌∙◌, add-one, arith, length-set, drop_of_length-le, take-suc-set, ltb-false, ltb-true}
 use lib.ListN.{length-replicate}
 use Rattle.octets.proofs.Every.{either}
 use Rattle.octets.specs.Places.{number_at}
@@ -12,7 +12,6 @@ use Rattle.file_lines.proofs.Walks.{at_line, at_end, at_unended, found_part}
 use Rattle.product_names.specs.Repeats.{stands_in, repeats, name_of, names_from}
 use Rattle.product_names.specs.Marking.{marked}
 use Rattle.product_names.specs.Blocks.{any_in, AllMarked, Says}
-use Rattle.product_names.specs.declared.Block.TheVariants.{Repeated, Over, Next}
 use Rattle.product_names.proofs.MarkLaws.{more-marked, length_marked}
 use Rattle.product_names.proofs.BlockLaws.{none_in_none, any_first, any-rest, goes_over}
 
@@ -66,7 +65,7 @@ module _
     (so_far : Looked list place names marks count next at)
   where
     module _ (name end : ℕ) (first : names_from list at ≡ name ∷ names_from list (end + 2)) where
-      pub twice : stands_in name (take count names) ≡ true → Says list place Repeated
+      pub twice : stands_in name (take count names) ≡ true → Says list place None
       twice found =
           so_far.left
           ∙ ap (λ (rows : List ℕ). any_in (take count names) rows || repeats (names_from list next)) first
@@ -112,14 +111,20 @@ module _
             }
 
     module _ (none : names_from list at ≡ []) where
-      pub over : at ≡ next → Says list place Over
+      pub over : place < length list → at ≡ next → Says list place (Some (length list))
       unfolding any_in repeats
-      over e =
+      over more e = (
+        more,
+        (
+          omega arith,
           so_far.left
-          ∙ ap (λ (n : ℕ). any_in (take count names) (names_from list at) || repeats (names_from list n)) (sym e)
-          ∙ ap (λ (rows : List ℕ). any_in (take count names) rows || repeats rows) none
+              ∙ ap (λ (n : ℕ). any_in (take count names) (names_from list at) || repeats (names_from list n)) (sym e)
+              ∙ ap (λ (rows : List ℕ). any_in (take count names) rows || repeats rows) none
+              ∙ sym (ap repeats (none_beyond list (length list) (omega arith))),
+        ),
+      )
 
-      pub goes_on : (at ≡ next → ⊥) → Says list place (Next next)
+      pub goes_on : (at ≡ next → ⊥) → Says list place (Some next)
       unfolding any_in
       goes_on more =
           let full : 32768 ≤ count =

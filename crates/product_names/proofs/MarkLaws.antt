@@ -1,11 +1,12 @@
 -- The marks of names: their places lie among the marks, and a name that is marked stays so.
 -- Assumes nothing.
-use Rattle.std.proofs.Common.{◌≡◌, ℕ, ◌*◌, ◌^◌, ◌<◌, Bool, true, false, ◌&&◌, ◌||◌, eqb, List, [], ◌∷◌, ◌++◌, length, get_or, set, sym, ap, ◌∙◌, lt_of_le_of_lt, le_of_lt, mul-le-mul_left, mul-lt-mul_of_pos_right, arith, length-set, get_or-set_other, get_or-set_same, eq-eqb, eqb-true}
+use Rattle.std.proofs.Common.{◌≡◌, ℕ, ◌*◌, ◌^◌, ◌<◌, true, false, ◌||◌, eqb, List, [], ◌∷◌, ◌++◌, length, get_or, set, fold, sym, refl, ap, ◌∙◌, lt_of_le_of_lt, le_of_lt, mul-le-mul_left, mul-lt-mul_of_pos_right, arith, length-set, get_or-set_other, get_or-set_same, eq-eqb, eqb-true}
+use Rattle.std.specs.List.{list_all}
 use borrow.Author.Tests.{eqb-false}
 use lib.Seq.{set-get_or}
 use Rattle.octets.proofs.Every.{and_first, and_second, either}
 use Rattle.product_names.specs.Repeats.{stands_in}
-use Rattle.product_names.specs.Marking.{mark_place, is_set, is_marked, with_set, marked, factor1, factor2, factor3, factor4}
+use Rattle.product_names.specs.Marking.{mark_place, is_set, is_marked, with_set, marked, factors}
 use Rattle.product_names.specs.Blocks.{AllMarked}
 use Rattle.product_names.proofs.BlockLaws.{stands_last}
 
@@ -39,44 +40,46 @@ stays_set marks factor name f y before =
     eq-eqb (get_or (set marks (mark_place factor name) 1) (mark_place f y) 0) 1
     (stays_one marks (mark_place factor name) (mark_place f y) (eqb-true (get_or marks (mark_place f y) 0) 1 before))
 
-both : (a b c d : Bool) → (a ≡ true → c ≡ true) → (b ≡ true → d ≡ true) → (a && b) ≡ true → (c && d) ≡ true
-both a b c d first second all = rw (first (and_first a b all), second (and_second a b all))
+-- the marks of a name by some factors
+abbrev all_set : List ℕ → ℕ → List ℕ → List ℕ
+all_set fs name marks = fold (λ (set : List ℕ) (factor : ℕ). with_set factor name set) marks fs
+
+length_all : (fs : List ℕ) (name : ℕ) (marks : List ℕ) → length (all_set fs name marks) ≡ length marks
+length_all [] name marks = refl
+length_all (f ∷ fs) name marks = length_all fs name (with_set f name marks) ∙ length-set marks (mark_place f name) 1
 
 pub length_marked : (name : ℕ) (marks : List ℕ) → length (marked name marks) ≡ length marks
 unfolding marked
-length_marked name marks = simp length-set
+length_marked name marks = length_all factors name marks
+
+all_stay : (fs : List ℕ) (name : ℕ) (marks : List ℕ) (f y : ℕ) → is_set marks f y ≡ true → is_set (all_set fs name marks) f y ≡ true
+all_stay [] name marks f y before = before
+all_stay (g ∷ fs) name marks f y before = all_stay fs name (with_set g name marks) f y (stays_set marks g name f y before)
+
+-- more marks are set, and those that were set stay so
+module _ (marks after : List ℕ) (y : ℕ) (stays : (f : ℕ) → is_set marks f y ≡ true → is_set after f y ≡ true) where
+  each_stays : (fs : List ℕ) → list_all (λ (f : ℕ). is_set marks f y) fs ≡ true → list_all (λ (f : ℕ). is_set after f y) fs ≡ true
+  each_stays [] before = refl
+  each_stays (f ∷ fs) before =
+      let rest = list_all (λ (g : ℕ). is_set marks g y) fs in
+      rw (stays f (and_first (is_set marks f y) rest before)) (each_stays fs (and_second (is_set marks f y) rest before))
+
+all_new : (fs : List ℕ) (name : ℕ) (marks : List ℕ) → length marks ≡ 262144 → list_all (λ (f : ℕ). is_set (all_set fs name marks) f name) fs ≡ true
+all_new [] name marks size = refl
+all_new (f ∷ fs) name marks size =
+    let one = with_set f name marks in
+    let same : length one ≡ 262144 = length-set marks (mark_place f name) 1 ∙ size in
+    rw (all_stay fs name one f name (new_set marks size f name)) (all_new fs name one same)
 
 module _ (marks : List ℕ) (name : ℕ) where
   stays_marked : (y : ℕ) → is_marked marks y ≡ true → is_marked (marked name marks) y ≡ true
   unfolding is_marked marked
-  stays_marked y =
-      let stays : (f : ℕ) → is_set marks f y ≡ true → is_set (with_set factor4 name (with_set factor3 name (with_set factor2 name (with_set factor1 name marks)))) f y ≡ true =
-      λ f before.
-      stays_set (with_set factor3 name (with_set factor2 name (with_set factor1 name marks))) factor4 name f y
-      (stays_set (with_set factor2 name (with_set factor1 name marks)) factor3 name f y
-      (stays_set (with_set factor1 name marks) factor2 name f y (stays_set marks factor1 name f y before))) in
-      both _ _ _ _ (both _ _ _ _ (both _ _ _ _ (stays factor1) (stays factor2)) (stays factor3)) (stays factor4)
+  stays_marked y = each_stays marks (all_set factors name marks) y (λ f. all_stay factors name marks f y) factors
 
   module _ (size : length marks ≡ 262144) where
     new-marked : is_marked (marked name marks) name ≡ true
     unfolding is_marked marked
-    new-marked =
-        let one = with_set factor1 name marks in
-        let two = with_set factor2 name one in
-        let three = with_set factor3 name two in
-        let size1 : length one ≡ 262144 = length-set marks (mark_place factor1 name) 1 ∙ size in
-        let size2 : length two ≡ 262144 = length-set one (mark_place factor2 name) 1 ∙ size1 in
-        let size3 : length three ≡ 262144 = length-set two (mark_place factor3 name) 1 ∙ size2 in
-        let first : is_set two factor1 name ≡ true = stays_set one factor2 name factor1 name (new_set marks size factor1 name) in
-        let second : is_set two factor2 name ≡ true = new_set one size1 factor2 name in
-        let third : is_set three factor3 name ≡ true = new_set two size2 factor3 name in
-        let on : (f : ℕ) → is_set three f name ≡ true → is_set (with_set factor4 name three) f name ≡ true = λ f. stays_set three factor4 name f name in
-        rw (
-          on factor1 (stays_set two factor3 name factor1 name first),
-          on factor2 (stays_set two factor3 name factor2 name second),
-          on factor3 third,
-          new_set three size3 factor4 name,
-        )
+    new-marked = all_new factors name marks size
 
     -- a name comes to a block, and is marked
     pub more-marked : (block : List ℕ) → AllMarked marks block → AllMarked (marked name marks) (block ++ (name ∷ []))

@@ -1,9 +1,7 @@
 -- What a block of rows says of the rows from its place on. For contracts inside the crate alone.
-use Rattle.std.specs.Prelude.{◌≡◌, ℕ, ◌<◌, ◌≤◌, Bool, true, false, ◌||◌, List, [], ◌∷◌, length}
+use Rattle.std.specs.Prelude.{◌≡◌, Option, None, Some, ℕ, ◌<◌, ◌≤◌, Bool, true, false, ◌||◌, List, [], ◌∷◌, length}
 use Rattle.product_names.specs.Repeats.{stands_in, repeats, names_from}
 use Rattle.product_names.specs.Marking.{is_marked}
-use Rattle.product_names.specs.declared.Block.{Block}
-use Rattle.product_names.specs.declared.Block.TheVariants.{Repeated, Over, Next}
 
 -- some name of the rows stands in the block
 unfoldable pub any_in : List ℕ → List ℕ → Bool
@@ -14,8 +12,7 @@ any_in block (x ∷ xs) = stands_in x block || any_in block xs
 abbrev pub AllMarked : List ℕ → List ℕ → Type 0
 AllMarked marks block = (x : ℕ) → stands_in x block ≡ true → is_marked marks x ≡ true
 
--- a name stands twice, or none does, or that is left to the rows from a place further on
-abbrev pub Says : List ℕ → ℕ → Block → Type 0
-Says list place Repeated = repeats (names_from list place) ≡ true
-Says list place Over = repeats (names_from list place) ≡ false
-Says list place (Next next) = (place < next) × ((next ≤ length list) × (repeats (names_from list place) ≡ repeats (names_from list next)))
+-- a name stands twice, or that is left to the rows from a place further on: to none from the list's end
+abbrev pub Says : List ℕ → ℕ → Option ℕ → Type 0
+Says list place None = repeats (names_from list place) ≡ true
+Says list place (Some next) = (place < next) × ((next ≤ length list) × (repeats (names_from list place) ≡ repeats (names_from list next)))

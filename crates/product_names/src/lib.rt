@@ -3,7 +3,7 @@
 // for the others the array is looked through. A list that was made to be slow costs a look through the array for each row.
 #![tactic(auto)]
 
-ghost use Rattle.std.specs.Prelude.{◌≡◌, ◌≤◌, length};
+ghost use Rattle.std.specs.Prelude.{◌≡◌, ◌<◌, length};
 ghost use Rattle.product_names.specs.Repeats.{stands_in, repeats, names_from};
 ghost use Rattle.product_names.specs.Marking.{mark_place, is_set, is_marked, marked};
 ghost use Rattle.product_names.specs.Blocks.{AllMarked, Says};
@@ -19,21 +19,12 @@ const ROWS: usize = 32768;
 const MARKS: usize = 262144;
 
 // What a name's four places are worked out with, each of two odd numbers of 32 bits. No proof rests on them: they spread the names.
-const FACTOR1: u64 = 0x9e37_79b9_7f4a_7c15;
-
-const FACTOR2: u64 = 0xc2b2_ae3d_27d4_eb4f;
-
-const FACTOR3: u64 = 0x1656_67b1_d6e8_feb9;
-
-const FACTOR4: u64 = 0x85eb_ca77_6659_fd93;
-
-// What looking at a block of rows says: a name stands twice, none does, or the rows from a place on are to be looked at among themselves.
-#[derive(Clone, Copy)]
-enum Block {
-    Repeated,
-    Over,
-    Next(usize),
-}
+const FACTORS: [u64; 4] = [
+    0x9e37_79b9_7f4a_7c15,
+    0xc2b2_ae3d_27d4_eb4f,
+    0x1656_67b1_d6e8_feb9,
+    0x85eb_ca77_6659_fd93,
+];
 
 // A place of a name among the marks.
 fn mark_place(factor: u64, name: u64) -> usize
@@ -52,23 +43,20 @@ fn is_set(marks: &[u8; MARKS], factor: u64, name: u64) -> bool
 }
 
 // Whether all marks of a name are set; where one is not, the name was never marked.
+#[tactic(auto, unfolding(crate::specs::Marking::is_marked))]
 fn is_marked(marks: &[u8; MARKS], name: u64) -> bool
     ensures { result ≡ is_marked marks.now name }
 {
-    is_set(marks, FACTOR1, name)
-        & is_set(marks, FACTOR2, name)
-        & is_set(marks, FACTOR3, name)
-        & is_set(marks, FACTOR4, name)
+    FACTORS.iter().all(|factor| is_set(marks, *factor, name))
 }
 
 // Sets the marks of a name.
 fn mark(marks: &mut [u8; MARKS], name: u64)
     ensures { marks.new ≡ marked name marks.old }
 {
-    marks[mark_place(FACTOR1, name)] = 1;
-    marks[mark_place(FACTOR2, name)] = 1;
-    marks[mark_place(FACTOR3, name)] = 1;
-    marks[mark_place(FACTOR4, name)] = 1;
+    for factor in FACTORS {
+        marks[mark_place(factor, name)] = 1;
+    }
 }
 
 // Whether a name stands among some; without leaving early, so that the compiler takes many at a time.
@@ -76,10 +64,8 @@ fn stands_in(names: &[u64], name: u64) -> bool
     ensures { result ≡ stands_in name names.now }
 {
     let mut found = false;
-    let mut i: usize = 0;
-    while i < names.len() {
-        found = found | (name == names[i]);
-        i += 1;
+    for other in names {
+        found = found | (name == *other);
     }
     found
 }
@@ -92,9 +78,10 @@ fn holds(names: &[u64], marks: &[u8; MARKS], name: u64) -> bool
     is_marked(marks, name) && stands_in(names, name)
 }
 
-// Looks at all rows from a place on: each is held against the block of the first ones.
-fn block_at(list: &[u8], place: usize) -> Block
-    requires { place ≤ length list.now }
+// Looks at all rows from a place on: each is held against the block of the first ones. None where a name stands twice in that way, otherwise the place
+// from which on the rows are still to be looked at among themselves, which is the list's end where none are. No `for`: a line ends where it is found to end.
+fn block_at(list: &[u8], place: usize) -> Option<usize>
+    requires { place < length list.now }
     ensures { Says list.now place result }
 {
     let mut names = [0u64; ROWS];
@@ -108,7 +95,7 @@ fn block_at(list: &[u8], place: usize) -> Block
         };
         let name = number64(&list[at..end], 0);
         if holds(&names[..count], &marks, name) {
-            return Block::Repeated;
+            return None;
         }
         at = end + 2;
         if count < ROWS {
@@ -119,22 +106,21 @@ fn block_at(list: &[u8], place: usize) -> Block
         }
     }
     if at == next {
-        return Block::Over;
+        return Some(list.len());
     }
-    Block::Next(next)
+    Some(next)
 }
 
-// The same of all blocks from a place on.
+// The same of all blocks from a place on. No `for`: a block tells where the next one begins.
 fn repeated_later(list: &[u8], first: usize) -> bool
     ensures { result ≡ repeats (names_from list.now first) }
 {
     let mut place = first;
     while place < list.len() {
-        match block_at(list, place) {
-            Block::Repeated => return true,
-            Block::Over => return false,
-            Block::Next(next) => place = next,
-        }
+        let Some(next) = block_at(list, place) else {
+            return true;
+        };
+        place = next;
     }
     false
 }
@@ -147,9 +133,8 @@ pub fn repeated(list: &[u8], first: usize) -> bool
     if list.len() <= first {
         return false;
     }
-    match block_at(list, first) {
-        Block::Repeated => true,
-        Block::Over => false,
-        Block::Next(next) => repeated_later(list, next),
-    }
+    let Some(next) = block_at(list, first) else {
+        return true;
+    };
+    repeated_later(list, next)
 }

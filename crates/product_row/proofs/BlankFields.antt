@@ -1,11 +1,12 @@
 -- A field that is blank, and one that may be.
 -- Assumes nothing.
-use mathlib.Core.Path.{◌≡◌, refl, ◌∙◌}
+use mathlib.Core.Path.{◌≡◌, refl, ap, ◌∙◌}
 use mathlib.Core.Bool.{false}
 use mathlib.Core.List.{List, [], ◌∷◌}
 use Prim.Native.Nat.{ℕ, ◌+◌, ◌≤◌, ◌<◌}
 use native.Mathlib.Omega.{arith}
 use lib.ListN.{length, get_or}
+use Rattle.std.proofs.Common.{Some}
 use Rattle.product_row.specs.Fields.{is_blank, or_blank}
 use Rattle.product_row.specs.Row.{Form}
 use Rattle.product_row.specs.Taking.{field_ends, field_at, taken}
@@ -28,11 +29,11 @@ module _ (line : List ℕ) (at : ℕ) (ended : field_ends line at < length line)
   pub unblank_field : (get_or line at 0 ≡ 44 → ⊥) → is_blank (field_at line at) ≡ false
   unblank_field other = some_unblank (field_at line at) (omega (arith, field_size line at, starts_other line at ended other))
 
-  pub blank_taken : (form : Form) → get_or line at 0 ≡ 44 → at + 1 ≡ taken (or_blank form) line at
+  pub blank_taken : (form : Form) → get_or line at 0 ≡ 44 → Some (at + 1) ≡ taken (or_blank form) line at
   unfolding is_blank
   blank_taken form comma =
       let here : at + 1 ≡ at + 0 + 1 = omega arith in
-      here ∙ taken-after (or_blank form) line at 0 (starts-comma line at ended comma) (rw (blank_field comma))
+      ap Some here ∙ taken-after (or_blank form) line at 0 (starts-comma line at ended comma) (rw (blank_field comma))
 
   pub other_taken : (form : Form) → (get_or line at 0 ≡ 44 → ⊥) → taken form line at ≡ taken (or_blank form) line at
   other_taken form other = taken_like (or_blank form) form line at at (rw (unblank_field other)) refl

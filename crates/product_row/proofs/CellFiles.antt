@@ -8,6 +8,7 @@ use native.Mathlib.Omega.{arith}
 use borrow.Author.Tests.{eq-eqb, ne_eqb, eqb-true, eqb-false}
 use lib.Dec.{eqb}
 use lib.ListN.{length, get_or, drop, length-drop}
+use Rattle.std.proofs.Common.{None, Some}
 use Rattle.octets.specs.Every.{all_of}
 use Rattle.octets.specs.Numbers.{Below, bytes_of}
 use Rattle.octets.specs.Places.{number_at}
@@ -33,16 +34,16 @@ abbrev is_other : ℕ → Bool
 is_other c = not (eqb c 44)
 
 module _ (line : List ℕ) (at : ℕ) (ended : field_ends line at < length line) where
-  other_size : (field_length line at ≡ 12 → ⊥) → 0 ≡ taken is_cell_file line at
+  other_size : (field_length line at ≡ 12 → ⊥) → None ≡ taken is_cell_file line at
   unfolding is_cell_file
   other_size other =
       not_taken is_cell_file line at (rw (ne_eqb (length (field_at line at)) 12 (λ e. other (sym (field_size line at) ∙ e))))
 
-  pub too_short : length line - at < 13 → 0 ≡ taken is_cell_file line at
+  pub too_short : length line - at < 13 → None ≡ taken is_cell_file line at
   unfolding field_ends
   too_short short = other_size (λ e. omega arith)
 
-  pub no_end : (get_or line (at + 12) 0 ≡ 44 → ⊥) → 0 ≡ taken is_cell_file line at
+  pub no_end : (get_or line (at + 12) 0 ≡ 44 → ⊥) → None ≡ taken is_cell_file line at
   unfolding field_ends
   no_end other = other_size (λ e. other (ap (λ (n : ℕ). get_or line (at + n) 0) (sym e) ∙ comma-there line at ended))
 
@@ -58,7 +59,7 @@ module _ (line : List ℕ) (at : ℕ) (ended : field_ends line at < length line)
         ∙ ap (all_of is_name_character) (part_of_field line at 8 0 (omega arith) ∙ ap (part 8 line) here))
         (ap (λ (l : List ℕ). same_text l (ascii ".000")) (part_of_field line at 4 8 (omega arith))))
 
-  by_size : (field_length line at ≡ 12 → is_cell_file (field_at line at) ≡ false) → 0 ≡ taken is_cell_file line at
+  by_size : (field_length line at ≡ 12 → is_cell_file (field_at line at) ≡ false) → None ≡ taken is_cell_file line at
   by_size bad =
       either (eqb (field_length line at) 12)
       (λ twelve. not_taken is_cell_file line at (bad (eqb-true (field_length line at) 12 twelve)))
@@ -69,11 +70,11 @@ module _ (line : List ℕ) (at : ℕ) (ended : field_ends line at < length line)
     name_is : all_of is_name_character (bytes_of 8 (number_at 8 line at)) ≡ all_of is_name_character (part 8 line at)
     name_is = ap (all_of is_name_character) (bytes_at 8 line at below (omega arith))
 
-    pub no_name : all_of is_name_character (bytes_of 8 (number_at 8 line at)) ≡ false → 0 ≡ taken is_cell_file line at
+    pub no_name : all_of is_name_character (bytes_of 8 (number_at 8 line at)) ≡ false → None ≡ taken is_cell_file line at
     no_name bad = by_size (λ size. file-is size ∙ rw (sym name_is ∙ bad))
 
     module _ (name : all_of is_name_character (bytes_of 8 (number_at 8 line at)) ≡ true) where
-      pub no-ending : stands_at (ascii ".000") line (at + 8) ≡ false → 0 ≡ taken is_cell_file line at
+      pub no-ending : stands_at (ascii ".000") line (at + 8) ≡ false → None ≡ taken is_cell_file line at
       no-ending bad = by_size (λ size. file-is size ∙ rw (sym name_is ∙ name, bad))
 
       module _ (ending : stands_at (ascii ".000") line (at + 8) ≡ true) where
@@ -90,8 +91,8 @@ module _ (line : List ℕ) (at : ℕ) (ended : field_ends line at < length line)
         unfolding field_ends
         twelve = omega (arith, four, same_end line at ended 8 eight)
 
-        pub is-file : get_or line (at + 12) 0 ≡ 44 → at + 13 ≡ taken is_cell_file line at
+        pub is-file : get_or line (at + 12) 0 ≡ 44 → Some (at + 13) ≡ taken is_cell_file line at
         is-file comma =
             let size : field_length line at ≡ 12 = ends_here line at ended 12 twelve comma in
             let sum : at + 13 ≡ at + 12 + 1 = omega arith in
-            sum ∙ taken-after is_cell_file line at 12 size (file-is size ∙ rw (sym name_is ∙ name, ending))
+            ap Some sum ∙ taken-after is_cell_file line at 12 size (file-is size ∙ rw (sym name_is ∙ name, ending))

@@ -8,6 +8,7 @@ use native.Mathlib.Omega.{arith}
 use borrow.Author.Tests.{eq-eqb, ne_eqb, eqb-true, eqb-false}
 use lib.Dec.{eqb}
 use lib.ListN.{length, get_or, drop, length-drop}
+use Rattle.std.proofs.Common.{None, Some}
 use Rattle.octets.specs.Every.{all_of}
 use Rattle.octets.proofs.Every.{either, and_first}
 use Rattle.text.specs.Characters.{is_digit, decimal_number}
@@ -15,6 +16,7 @@ use Rattle.text.specs.Texts.{part, all_at}
 use Rattle.text.proofs.TextsAt.{all_within, all_there, all_inside}
 use Rattle.dates.specs.Calendar.{is_date}
 use Rattle.forms.specs.DateText.{is_date_at}
+use Rattle.forms.proofs.DateTexts.{date_right, date_wrong}
 use Rattle.product_row.specs.Fields.{is_date_text}
 use Rattle.product_row.specs.Taking.{field_length, field_ends, field_at, taken}
 use Rattle.product_row.proofs.Cuts.{run_uncut}
@@ -45,7 +47,7 @@ module _ (line : List ℕ) (at : ℕ) (ended : field_ends line at < length line)
         rw (eq-eqb (length (field_at line at)) 8 (field_size line at ∙ size))
         (ap₂ (λ (a : Bool) (l : List ℕ). a && is_date (decimal_number l)) same_digits same_part)
 
-  pub no_date_lem : is_date_at line at ≡ false → 0 ≡ taken is_date_text line at
+  pub no_date_lem : is_date_at line at ≡ false → None ≡ taken is_date_text line at
   no_date_lem bad =
       not_taken is_date_text line at
       (either (eqb (field_length line at) 8)
@@ -64,17 +66,20 @@ module _ (line : List ℕ) (at : ℕ) (ended : field_ends line at < length line)
         (simp length-drop (omega (arith, all_within is_digit 8 line at all)))
         (all_there is_digit 8 line at all)
 
-    pub date-inside : at + 8 < length line
-    date-inside = within line at ended 8 eight
+    pub date_inside : at + 8 < length line
+    date_inside = within line at ended 8 eight
 
-    pub date-goes-on : (get_or line (at + 8) 0 ≡ 44 → ⊥) → 0 ≡ taken is_date_text line at
+    pub date_goes_on : (get_or line (at + 8) 0 ≡ 44 → ⊥) → None ≡ taken is_date_text line at
     unfolding field_ends
-    date-goes-on other =
+    date_goes_on other =
         not_taken is_date_text line at
         (other_size (λ e. other (ap (λ (n : ℕ). get_or line (at + n) 0) (sym e) ∙ comma-there line at ended)))
 
-    pub is-date : get_or line (at + 8) 0 ≡ 44 → at + 9 ≡ taken is_date_text line at
-    is-date comma =
+    pub date_is : get_or line (at + 8) 0 ≡ 44 → Some (at + 9) ≡ taken is_date_text line at
+    date_is comma =
         let size : field_length line at ≡ 8 = ends_here line at ended 8 eight comma in
         let sum : at + 9 ≡ at + 8 + 1 = omega arith in
-        sum ∙ taken-after is_date_text line at 8 size (same-date size ∙ date)
+        ap Some sum ∙ taken-after is_date_text line at 8 size (same-date size ∙ date)
+
+-- what the check is given of dates
+pub ruleset date_laws = (date_right, date_wrong, no_date_lem, date_inside, date_goes_on, date_is)

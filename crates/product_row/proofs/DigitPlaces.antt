@@ -71,9 +71,9 @@ module _ (line : List ℕ) (at : ℕ) (ended : field_ends line at < length line)
     pub end_before : end - at ≤ field_length line at
     end_before = omega (arith, place, count_within)
 
-    pub end-inside : end < length line
+    pub end_inside : end < length line
     unfolding field_ends
-    end-inside = omega (arith, place, count_within)
+    end_inside = omega (arith, place, count_within)
 
     byte-there : get_or line (at + count) 0 ≡ get_or line end 0
     byte-there = ap (λ (k : ℕ). get_or line k 0) (sym place)

@@ -1,15 +1,16 @@
 -- The fields of a text: the first of them and those after its comma, and how many they are.
 -- Assumes nothing.
-use mathlib.Core.Path.{◌≡◌, refl, sym, ap, ◌∙◌}
+use mathlib.Core.Path.{◌≡◌, refl, ap, ◌∙◌}
 use mathlib.Core.List.{List, [], ◌∷◌}
 use Prim.Native.Nat.{ℕ, suc, ◌+◌, ◌≤◌, ◌<◌}
 use native.Mathlib.Nat.{le_of_suc-le-suc}
-use native.Mathlib.Numerals.{add-one}
 use native.Mathlib.Omega.{arith}
-use borrow.Author.Tests.{ne_eqb, ltb-true, ltb-false}
+use borrow.Author.Tests.{ltb-true, ltb-false}
 use lib.Dec.{eqb, ltb}
-use lib.ListN.{length, get_or, take, drop, length-drop, drop_of_length-le}
-use lib.Seq.{drop-drop, drop-cons}
+use lib.ListN.{length, take, drop, length-drop}
+use lib.Seq.{drop-drop}
+use Rattle.std.proofs.Common.{◌==◌, cond, count_by}
+use Rattle.std.proofs.lemmas.List.Sums.{sum_by-cons}
 use Rattle.octets.proofs.Every.{either}
 use Rattle.text.specs.Texts.{onto}
 use Rattle.product_row.specs.Fields.{length_to, fields_of}
@@ -28,6 +29,17 @@ fields_some (c ∷ s) =
     either (eqb c 44)
     (λ comma. rw comma (omega arith))
     (λ other. rw other (rw (onto-length c (fields_of s) (fields_some s)) (fields_some s)))
+
+-- as many as commas, and one
+pub fields_count : (s : List ℕ) → length (fields_of s) ≡ suc (count_by (λ c. c == 44) s)
+unfolding fields_of
+fields_count [] = refl
+fields_count (c ∷ s) =
+    let here = sum_by-cons (λ (b : ℕ). cond (b == 44) 1 0) c s in
+    let rest = fields_count s in
+    either (eqb c 44)
+    (λ comma. let one = rw comma at here in rw comma (omega arith))
+    (λ other. let none = rw other at here in rw other (rw (onto-length c (fields_of s) (fields_some s)) (omega arith)))
 
 -- a field that a comma ends, and those after it
 first_field : (s : List ℕ) → length_to 44 s < length s → fields_of s ≡ take (length_to 44 s) s ∷ fields_of (drop (suc (length_to 44 s)) s)
@@ -73,22 +85,3 @@ module _ (line : List ℕ) (at : ℕ) where
       (λ ended.
       absurd (omega (arith, one_less (ltb-true (field_ends line at) (length line) ended), fields_some (drop (suc (field_ends line at)) line))))
       (λ end. only_field (drop at line) (last_size_lem (ltb-false (field_ends line at) (length line) end)))
-
-  -- byte by byte
-  module _ (more : at < length line) where
-    split : drop at line ≡ get_or line at 0 ∷ drop (at + 1) line
-    split = drop-cons line at 0 more ∙ ap (λ (k : ℕ). get_or line at 0 ∷ drop k line) (sym (add-one at))
-
-    pub comma-passed : get_or line at 0 ≡ 44 → fields_left line at ≡ suc (fields_left line (at + 1))
-    unfolding fields_of
-    comma-passed comma = rw (split, comma)
-
-    pub other-passed : (get_or line at 0 ≡ 44 → ⊥) → fields_left line at ≡ fields_left line (at + 1)
-    unfolding fields_of
-    other-passed other =
-        rw (split, ne_eqb (get_or line at 0) 44 other)
-        (onto-length (get_or line at 0) (fields_of (drop (at + 1) line)) (fields_some (drop (at + 1) line)))
-
-pub none_left : (line : List ℕ) (at : ℕ) → length line ≤ at → fields_left line at ≡ 1
-unfolding fields_of
-none_left line at end = rw (drop_of_length-le line {i = at} end)

@@ -9,6 +9,7 @@ use borrow.Author.Tests.{ne_eqb, eqb-true, eqb-false, ltb-true, ltb-false}
 use lib.Dec.{eqb, ltb}
 use lib.ListN.{length, get_or, take, drop, drop_of_length-le, get_or-eq_default}
 use lib.Seq.{length-take-le, get_or-take}
+use Rattle.std.proofs.Common.{None}
 use Rattle.octets.specs.Every.{all_of}
 use Rattle.octets.proofs.Every.{either}
 use Rattle.text.specs.Characters.{is_digit}
@@ -28,7 +29,7 @@ abbrev is_letter : ℕ → Bool
 is_letter c = eqb c 66 || eqb c 85
 
 module _ (line : List ℕ) (at : ℕ) (ended : field_ends line at < length line) where
-  pub no_letter : is_letter (get_or line at 0) ≡ false → 0 ≡ taken is_exchange_set line at
+  pub no_letter : is_letter (get_or line at 0) ≡ false → None ≡ taken is_exchange_set line at
   unfolding is_exchange_set
   no_letter bad =
       not_taken is_exchange_set line at
@@ -46,12 +47,12 @@ module _ (line : List ℕ) (at : ℕ) (ended : field_ends line at < length line)
     some : 1 ≤ field_length line at
     some = starts_other line at ended more
 
-    pub number-ended : field_ends line (at + 1) < length line
-    number-ended = still-ended line at ended 1 some
+    pub number_ended : field_ends line (at + 1) < length line
+    number_ended = still-ended line at ended 1 some
 
-    pub then-number : taken (is_number 2 1) line (at + 1) ≡ taken is_exchange_set line at
+    pub then_number : taken (is_number 2 1) line (at + 1) ≡ taken is_exchange_set line at
     unfolding is_exchange_set
-    then-number =
+    then_number =
         taken_like is_exchange_set (is_number 2 1) line at (at + 1)
         (rw (first_byte line at ended some, letter, rest-of-field line at ended 1 some))
         (sym (same_end line at ended 1 some))
@@ -149,8 +150,8 @@ module _ (line : List ℕ) (at : ℕ) (ended : field_ends line at < length line)
     byte-after : digits_first g < field_length line (at + 1) → get_or g (digits_first g) 0 ≡ get_or line end 0
     byte-after less = field_byte line (at + 1) (digits_first g) less ∙ ap (λ (n : ℕ). get_or line n 0) place_end
 
-    pub no-volume : (get_or line end 0 ≡ 59 → ⊥) → 0 ≡ taken (or_blank is_location) line at
-    no-volume other =
+    pub no_volume : (get_or line end 0 ≡ 59 → ⊥) → None ≡ taken (or_blank is_location) line at
+    no_volume other =
         not_taken (or_blank is_location) line at
         (location-is
         ∙ no_semicolon g
@@ -185,11 +186,14 @@ module _ (line : List ℕ) (at : ℕ) (ended : field_ends line at < length line)
           ∙ ap (λ (n : ℕ). is_numeral 2 1 n (get_or line (at + 1) 0)) count)
           (ap is_exchange_set (rest-of-field line (at + 1) volume_ended (suc (digits_first g)) less ∙ ap (field_at line) next_place))
 
-      pub volume-wrong : is_numeral 2 1 (end - (at + 1)) (get_or line (at + 1) 0) ≡ false → 0 ≡ taken (or_blank is_location) line at
-      volume-wrong bad = not_taken (or_blank is_location) line at (parts ∙ rw bad)
+      pub volume_wrong : is_numeral 2 1 (end - (at + 1)) (get_or line (at + 1) 0) ≡ false → None ≡ taken (or_blank is_location) line at
+      volume_wrong bad = not_taken (or_blank is_location) line at (parts ∙ rw bad)
 
-      pub volume-right : is_numeral 2 1 (end - (at + 1)) (get_or line (at + 1) 0) ≡ true → taken is_exchange_set line (end + 1) ≡ taken (or_blank is_location) line at
-      volume-right good =
+      pub volume_right : is_numeral 2 1 (end - (at + 1)) (get_or line (at + 1) 0) ≡ true → taken is_exchange_set line (end + 1) ≡ taken (or_blank is_location) line at
+      volume_right good =
           taken_like (or_blank is_location) is_exchange_set line at (end + 1)
           (parts ∙ rw good)
           (sym (ap (field_ends line) (sym next_place) ∙ same_end line (at + 1) volume_ended (suc (digits_first g)) less ∙ same_end line at ended 1 one))
+
+-- what the check is given of locations
+pub ruleset location_laws = (end_after, volume_ended, not_volume, no_volume, set_ended, volume_wrong, volume_right)

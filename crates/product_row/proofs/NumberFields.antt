@@ -8,12 +8,13 @@ use native.Mathlib.Omega.{arith}
 use borrow.Author.Tests.{le-leb, lt-leb}
 use lib.Dec.{leb}
 use lib.ListN.{length, get_or}
+use Rattle.std.proofs.Common.{None, Some}
 use Rattle.octets.specs.Every.{all_of}
 use Rattle.text.specs.Characters.{is_digit}
 use Rattle.product_row.specs.Fields.{is_blank, or_blank, is_digits, is_number}
 use Rattle.product_row.specs.Taking.{field_ends, field_at, taken, digits_end, is_numeral}
 use Rattle.product_row.proofs.FieldPlaces.{field_size, first_byte}
-use Rattle.product_row.proofs.DigitPlaces.{end_after, end-size, end-all, end-not}
+use Rattle.product_row.proofs.DigitPlaces.{end_after, end_inside, end-size, end-all, end-not}
 use Rattle.product_row.proofs.Numerals.{number_numeral, no_digits_no_number}
 use Rattle.product_row.proofs.TakenFields.{taken-after, not_taken}
 
@@ -37,17 +38,17 @@ other_digits n (c ∷ f) bad = rw bad (simp and-false)
 
 -- the digits that begin at a place end at a place
 module _ (line : List ℕ) (at end : ℕ) (ended : field_ends line at < length line) (is : end ≡ digits_end line at) where
-  ends_there : get_or line end 0 ≡ 44 → (form : List ℕ → Bool) → form (field_at line at) ≡ true → end + 1 ≡ taken form line at
+  ends_there : get_or line end 0 ≡ 44 → (form : List ℕ → Bool) → form (field_at line at) ≡ true → Some (end + 1) ≡ taken form line at
   ends_there comma form good =
       let sum : at + (end - at) + 1 ≡ end + 1 = omega (arith, end_after line at ended end is) in
-      sym sum ∙ taken-after form line at (end - at) (end-size line at ended end is comma) good
+      ap Some (sym sum) ∙ taken-after form line at (end - at) (end-size line at ended end is comma) good
 
   size : get_or line end 0 ≡ 44 → length (field_at line at) ≡ end - at
   size comma = field_size line at ∙ end-size line at ended end is comma
 
   module _ (most low : ℕ) where
-    pub other-number : (get_or line end 0 ≡ 44 → ⊥) → 0 ≡ taken (is_number most low) line at
-    other-number other =
+    pub other_number : (get_or line end 0 ≡ 44 → ⊥) → None ≡ taken (is_number most low) line at
+    other_number other =
         not_taken (is_number most low) line at (no_digits_no_number most low (field_at line at) (end-not line at ended end is other))
 
     module _ (small : low ≤ 1) (comma : get_or line end 0 ≡ 44) where
@@ -58,14 +59,14 @@ module _ (line : List ℕ) (at end : ℕ) (ended : field_ends line at < length l
           ∙ first_alike most low (end - at) (get_or (field_at line at) 0 0) (get_or line at 0)
           (λ h. first_byte line at ended (omega (arith, end-size line at ended end is comma)))
 
-      pub no-numeral : is_numeral most low (end - at) (get_or line at 0) ≡ false → 0 ≡ taken (is_number most low) line at
-      no-numeral bad = not_taken (is_number most low) line at (numeral ∙ bad)
+      pub no_numeral : is_numeral most low (end - at) (get_or line at 0) ≡ false → None ≡ taken (is_number most low) line at
+      no_numeral bad = not_taken (is_number most low) line at (numeral ∙ bad)
 
-      pub is-number : is_numeral most low (end - at) (get_or line at 0) ≡ true → end + 1 ≡ taken (is_number most low) line at
-      is-number good = ends_there comma (is_number most low) (numeral ∙ good)
+      pub number_is : is_numeral most low (end - at) (get_or line at 0) ≡ true → Some (end + 1) ≡ taken (is_number most low) line at
+      number_is good = ends_there comma (is_number most low) (numeral ∙ good)
 
   module _ (n : ℕ) where
-    pub other_byte : (get_or line end 0 ≡ 44 → ⊥) → 0 ≡ taken (or_blank (is_digits n)) line at
+    pub other_byte : (get_or line end 0 ≡ 44 → ⊥) → None ≡ taken (or_blank (is_digits n)) line at
     other_byte other =
         not_taken (or_blank (is_digits n)) line at (other_digits n (field_at line at) (end-not line at ended end is other))
 
@@ -73,8 +74,11 @@ module _ (line : List ℕ) (at end : ℕ) (ended : field_ends line at < length l
       few : or_blank (is_digits n) (field_at line at) ≡ leb (end - at) n
       few = digits_few n (field_at line at) (end-all line at ended end is comma) ∙ ap (λ (k : ℕ). leb k n) (size comma)
 
-      pub too_many : n < end - at → 0 ≡ taken (or_blank (is_digits n)) line at
+      pub too_many : n < end - at → None ≡ taken (or_blank (is_digits n)) line at
       too_many many = not_taken (or_blank (is_digits n)) line at (few ∙ lt-leb (end - at) n many)
 
-      pub are-digits : end - at ≤ n → end + 1 ≡ taken (or_blank (is_digits n)) line at
-      are-digits enough = ends_there comma (or_blank (is_digits n)) (few ∙ le-leb (end - at) n enough)
+      pub are_digits : end - at ≤ n → Some (end + 1) ≡ taken (or_blank (is_digits n)) line at
+      are_digits enough = ends_there comma (or_blank (is_digits n)) (few ∙ le-leb (end - at) n enough)
+
+-- what the check is given of numbers and of digits
+pub ruleset number_laws = (end_after, end_inside, other_number, no_numeral, number_is, other_byte, too_many, are_digits)

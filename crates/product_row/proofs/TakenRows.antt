@@ -7,6 +7,7 @@ use Prim.Native.Nat.{ℕ, suc, ◌+◌, ◌≤◌, ◌<◌}
 use native.Mathlib.Nat.{zero-add, suc-add}
 use native.Mathlib.Omega.{arith}
 use lib.ListN.{length, drop}
+use Rattle.std.proofs.Common.{None, Some}
 use Rattle.octets.proofs.Every.{either}
 use Rattle.product_row.specs.Fields.{fields_of}
 use Rattle.product_row.specs.Row.{Form, fits, field_after}
@@ -14,20 +15,18 @@ use Rattle.product_row.specs.Taking.{field_ends, field_at, fields_left, taken, t
 use Rattle.product_row.proofs.FieldLists.{next-fields, more_fields, one_less}
 use Rattle.product_row.proofs.TakenFields.{taken_says, none_says}
 
--- a field was taken, of two or more that were left
-module _ (form : Form) (line : List ℕ) (at r : ℕ) (is : r ≡ taken form line at) (two : 2 ≤ fields_left line at) where
-  ended : field_ends line at < length line
-  ended = more_fields line at two
-
-  module _ (some : r ≡ 0 → ⊥) where
-    says : (form (field_at line at) ≡ true) × (taken form line at ≡ suc (field_ends line at))
-    says = taken_says form line at (λ e. some (is ∙ e))
-
-    place : r ≡ suc (field_ends line at)
-    place = is ∙ says.1
+-- a field of a form, of two or more that were left
+module _ (form : Form) (line : List ℕ) (at : ℕ) where
+  -- it was taken
+  module _ (r : ℕ) (is : Some r ≡ taken form line at) (two : 2 ≤ fields_left line at) where
+    ended : field_ends line at < length line
+    ended = more_fields line at two
 
     pub of-form : form (field_at line at) ≡ true
-    of-form = says.0
+    of-form = (taken_says form line at r is).0
+
+    place : r ≡ suc (field_ends line at)
+    place = (taken_says form line at r is).1
 
     pub left_after : fields_left line at ≡ suc (fields_left line r)
     left_after = one_less line at ended ∙ ap (λ (n : ℕ). suc (fields_left line n)) (sym place)
@@ -38,9 +37,9 @@ module _ (form : Form) (line : List ℕ) (at r : ℕ) (is : r ≡ taken form lin
     fields-after : fields_of (drop at line) ≡ field_at line at ∷ fields_of (drop r line)
     fields-after = next-fields line at ended ∙ ap (λ (n : ℕ). field_at line at ∷ fields_of (drop n line)) (sym place)
 
-    pub all-next : (forms : List Form) → taken_all forms line r ≡ taken_all (form ∷ forms) line at
+    pub all_next : (forms : List Form) → taken_all forms line r ≡ taken_all (form ∷ forms) line at
     unfolding taken_all
-    all-next forms = rw (of-form, place)
+    all_next forms = rw (of-form, place)
 
     pub fits_next : (forms : List Form) → fits forms (fields_of (drop r line)) ≡ fits (form ∷ forms) (fields_of (drop at line))
     unfolding fits
@@ -54,17 +53,15 @@ module _ (form : Form) (line : List ℕ) (at r : ℕ) (is : r ≡ taken form lin
     unfolding field_after
     field-after n = rw fields-after
 
-  module _ (none : r ≡ 0) where
-    not-form : form (field_at line at) ≡ false
-    not-form = none_says form line at (sym is ∙ none)
-
-    pub all_none : (forms : List Form) → 0 ≡ taken_all (form ∷ forms) line at
+  -- it is not of the form
+  module _ (none : None ≡ taken form line at) where
+    pub all_none : (forms : List Form) → None ≡ taken_all (form ∷ forms) line at
     unfolding taken_all
-    all_none forms = rw not-form
+    all_none forms = rw (none_says form line at none)
 
-    pub fits-none : (forms : List Form) → false ≡ fits (form ∷ forms) (fields_of (drop at line))
+    pub fits-none : 2 ≤ fields_left line at → (forms : List Form) → false ≡ fits (form ∷ forms) (fields_of (drop at line))
     unfolding fits
-    fits-none forms = rw (next-fields line at ended, not-form)
+    fits-none two forms = rw (next-fields line at (more_fields line at two), none_says form line at none)
 
 -- the last of them
 pub all_one : (form : Form) (line : List ℕ) (at : ℕ) → taken form line at ≡ taken_all (form ∷ []) line at
@@ -102,38 +99,37 @@ module _ (line : List ℕ) (more : List Form) where
           left = omega (arith, one_less line at ended, rest.left);
         }
 
-  after : (forms : List Form) (at : ℕ) → length forms < fields_left line at → (taken_all forms line at ≡ 0 → ⊥)
-      → After forms more line at (taken_all forms line at)
+  pub all_after : (forms : List Form) (at r : ℕ) → Some r ≡ taken_all forms line at → length forms < fields_left line at → After forms more line at r
   unfolding taken_all next
-  after [] at enough some =
-      record { fitting = refl; joined = refl; skipped = λ n. rw zero-add; left = omega arith }
-  after (form ∷ forms) at enough some =
+  all_after [] at r is enough =
+      let here : r ≡ at = cc in
+      rw here (record { fitting = refl; joined = refl; skipped = λ n. rw zero-add; left = omega arith })
+  all_after (form ∷ forms) at r is enough =
       let ended = more_fields line at (omega arith) in
       let one = one_less line at ended in
       either (form (field_at line at))
-      (λ good.
-      rw good (one-before form forms at ended good _ (after forms (suc (field_ends line at)) (omega arith) (λ e. some (rw good e)))))
-      (λ bad. absurd (some (rw bad)))
-
-  pub all_after : (forms : List Form) (at r : ℕ) → r ≡ taken_all forms line at → length forms < fields_left line at → (r ≡ 0 → ⊥) → After forms more line at r
-  all_after forms at r is enough some = rw is (after forms at enough (λ e. some (is ∙ e)))
+      (λ good. one-before form forms at ended good r (all_after forms (suc (field_ends line at)) r (rw good at is) (omega arith)))
+      (λ bad. let none = rw bad at is in cc)
 
   -- one of them is not of its form
-  pub none_fits : (forms : List Form) (at : ℕ) → 0 < at + length forms → length forms < fields_left line at → taken_all forms line at ≡ 0
+  pub none_fits : (forms : List Form) (at : ℕ) → length forms < fields_left line at → None ≡ taken_all forms line at
       → false ≡ fits (forms ++ more) (fields_of (drop at line))
   unfolding taken_all fits
-  none_fits [] at some enough none = absurd (omega arith)
-  none_fits (form ∷ forms) at some enough none =
+  none_fits [] at enough none = cc
+  none_fits (form ∷ forms) at enough none =
       let ended = more_fields line at (omega arith) in
       let one = one_less line at ended in
       either (form (field_at line at))
-      (λ good. rw (next-fields line at ended, good) (none_fits forms (suc (field_ends line at)) (omega arith) (omega arith) (rw good at none)))
+      (λ good. rw (next-fields line at ended, good) (none_fits forms (suc (field_ends line at)) (omega arith) (rw good at none)))
       (λ bad. rw (next-fields line at ended, bad))
 
-  pub none_joined : (forms : List Form) (at : ℕ) → 0 < at + length forms → taken_all forms line at ≡ 0 → 0 ≡ taken_all (forms ++ more) line at
+  pub none_joined : (forms : List Form) (at : ℕ) → None ≡ taken_all forms line at → None ≡ taken_all (forms ++ more) line at
   unfolding taken_all
-  none_joined [] at some none = absurd (omega arith)
-  none_joined (form ∷ forms) at some none =
+  none_joined [] at none = cc
+  none_joined (form ∷ forms) at none =
       either (form (field_at line at))
-      (λ good. rw good (none_joined forms (suc (field_ends line at)) (omega arith) (rw good at none)))
+      (λ good. rw good (none_joined forms (suc (field_ends line at)) (rw good at none)))
       (λ bad. rw bad)
+
+-- what the check is given of fields taken in their order
+pub ruleset taking_laws = (more_fields, left_after, all_next, all_none, all_one)

@@ -1,12 +1,10 @@
 -- A row of the product list: the forms of its fields in their order, and what is taken of it.
-use Rattle.std.specs.Prelude.{Bool, true, false, cond, ◌&&◌, List, [], ◌∷◌, ◌++◌, ℕ, zero, suc, ◌-◌, leb, length, replicate}
+use Rattle.std.specs.Prelude.{Option, None, Some, Bool, true, false, cond, ◌&&◌, List, [], ◌∷◌, ◌++◌, ℕ, zero, suc, ◌-◌, leb, length, replicate}
 use Rattle.octets.specs.Every.{all_of}
 use Rattle.octets.specs.Places.{number_at}
 use Rattle.text.specs.Characters.{is_printable, decimal_number}
 use Rattle.product_row.specs.Fields.{fields_of, or_blank, is_cell_file, is_date_text, is_digits, is_number, is_degrees, is_location}
 use Rattle.product_row.specs.declared.Row.{Row}
-use Rattle.product_row.specs.declared.Read.{Read}
-use Rattle.product_row.specs.declared.Read.TheVariants.{Cell, Wrong}
 
 -- a form of a field
 abbrev pub Form : Type 0
@@ -50,6 +48,6 @@ row_of line = record {
   update = decimal_number (field_after 4 (fields_of line));
 }
 
--- what reading a line gives
-unfoldable pub read_row : List ℕ → Read
-read_row line = cond (is_row line) (Cell (row_of line)) Wrong
+-- what reading a line gives: nothing where it is no row
+unfoldable pub read_row : List ℕ → Option Row
+read_row line = cond (is_row line) (Some (row_of line)) None

@@ -1,5 +1,5 @@
 -- Taking the fields of a row one by one, from places. For contracts inside the crate alone.
-use Rattle.std.specs.Prelude.{Bool, cond, not, ◌&&◌, ◌||◌, List, [], ◌∷◌, ℕ, suc, ◌+◌, leb, eqb, length, drop}
+use Rattle.std.specs.Prelude.{Option, None, Some, Bool, cond, not, ◌&&◌, ◌||◌, List, [], ◌∷◌, ℕ, suc, ◌+◌, leb, eqb, length, drop}
 use Rattle.text.specs.Ascii.{byte}
 use Rattle.text.specs.Texts.{part}
 use Rattle.product_row.specs.Fields.{length_to, fields_of, digits_first}
@@ -21,14 +21,14 @@ field_at line at = part (field_length line at) line at
 abbrev pub fields_left : List ℕ → ℕ → ℕ
 fields_left line at = length (fields_of (drop at line))
 
--- the place after the field and its comma, or 0 where the field is not of the form
-unfoldable pub taken : Form → List ℕ → ℕ → ℕ
-taken form line at = cond (form (field_at line at)) (suc (field_ends line at)) 0
+-- the place after the field and its comma, where the field is of the form
+unfoldable pub taken : Form → List ℕ → ℕ → Option ℕ
+taken form line at = cond (form (field_at line at)) (Some (suc (field_ends line at))) None
 
 -- the same of one field after another
-unfoldable pub taken_all : List Form → List ℕ → ℕ → ℕ
-taken_all [] line at = at
-taken_all (form ∷ forms) line at = cond (form (field_at line at)) (taken_all forms line (suc (field_ends line at))) 0
+unfoldable pub taken_all : List Form → List ℕ → ℕ → Option ℕ
+taken_all [] line at = Some at
+taken_all (form ∷ forms) line at = cond (form (field_at line at)) (taken_all forms line (suc (field_ends line at))) None
 
 -- where the digits that begin at a place end
 unfoldable pub digits_end : List ℕ → ℕ → ℕ

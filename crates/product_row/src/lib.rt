@@ -1,7 +1,7 @@
 // A row of the product list, PRODUCTS.TXT: its fields are read in their order, and name, edition and update are taken of it.
 #![tactic(auto)]
 
-ghost use Rattle.std.specs.Prelude.{◌≡◌, [], ◌∷◌, ◌++◌, suc, ◌+◌, ◌<◌, ◌≤◌, length, drop, replicate};
+ghost use Rattle.std.specs.Prelude.{◌≡◌, [], ◌∷◌, ◌++◌, suc, ◌+◌, ◌<◌, ◌≤◌, length, drop, replicate, count_by, ◌==◌};
 ghost use Rattle.product_row.specs.Fields.{fields_of, or_blank, is_cell_file, is_date_text, is_digits, is_number, is_degrees};
 ghost use Rattle.product_row.specs.Row.{last_forms, fits, read_row};
 ghost use Rattle.product_row.specs.Taking.{fields_left, taken_all};
@@ -19,14 +19,7 @@ pub struct Row {
     pub update: u32,
 }
 
-// What reading a line gives.
-#[derive(Clone, Copy)]
-pub enum Read {
-    Cell(Row),
-    Wrong,
-}
-
-// What the first six fields give: edition, update and the place after them, which is 0 where one of them is not of its form.
+// What the first six fields give: edition and update, and the place after them.
 #[derive(Clone, Copy)]
 struct Start {
     edition: u32,
@@ -34,35 +27,12 @@ struct Start {
     next: usize,
 }
 
-// One of them is not of its form.
-const NO_START: Start = Start {
-    edition: 0,
-    update: 0,
-    next: 0,
-};
-
-// How many commas stand between two places. The loop looks at every byte and counts in a byte, so that sixteen are compared at once.
-fn commas_between(line: &[u8], from: usize, to: usize) -> u8
-    requires { (from ≤ to) × (to ≤ length line.now) × (to ≤ from + 255) }
-    ensures { (result + fields_left line.now to ≡ fields_left line.now from) × (from + result ≤ to) }
+// How many commas up to 255 bytes have: so few that a byte counts them, and the compiler compares sixteen at once.
+fn commas_in(piece: &[u8]) -> u8
+    requires { length piece.now ≤ 255 }
+    ensures { result ≡ count_by (λ c. c == 44) piece.now }
 {
-    let mut n: u8 = 0;
-    let mut i = from;
-    while i < to {
-        if line[i] == b',' {
-            n += 1;
-        }
-        i += 1;
-    }
-    n
-}
-
-// Where the next 255 bytes end, or what is left of them.
-fn stretch_end(at: usize, size: usize) -> usize
-    requires { at < size }
-    ensures { (at < result) × (result ≤ size) × (result ≤ at + 255) }
-{
-    if size - at < 255 { size } else { at + 255 }
+    piece.iter().map(|c| u8::from(*c == b',')).sum()
 }
 
 // How many commas a line has.
@@ -70,117 +40,85 @@ fn commas(line: &[u8]) -> usize
     ensures { suc result ≡ length (fields_of line.now) }
 {
     let mut n: usize = 0;
-    let mut at: usize = 0;
-    while at < line.len() {
-        let end = stretch_end(at, line.len());
-        n += commas_between(line, at, end) as usize;
-        at = end;
+    for piece in line.chunks(255) {
+        n += commas_in(piece) as usize;
     }
     n
 }
 
-// The place after name and base cell issue date, or 0.
-fn name_and_date(line: &[u8]) -> usize
+// The place after name and base cell issue date, or None.
+#[tactic(auto, using(crate::proofs::TakenRows::taking_laws))]
+fn name_and_date(line: &[u8]) -> Option<usize>
     requires { 3 ≤ length (fields_of line.now) }
     ensures { result ≡ taken_all (is_cell_file ∷ is_date_text ∷ []) line.now 0 }
 {
-    let date_at = fields::cell_file(line, 0);
-    if date_at == 0 {
-        return 0;
-    }
+    let date_at = fields::cell_file(line, 0)?;
     fields::date(line, date_at)
 }
 
-// The place after the latest update and the file size, or 0.
-fn update_and_size(line: &[u8], at: usize) -> usize
+// The place after the latest update and the file size, or None.
+#[tactic(auto, using(crate::proofs::TakenRows::taking_laws))]
+fn update_and_size(line: &[u8], at: usize) -> Option<usize>
     requires { 3 ≤ fields_left line.now at }
     ensures { result ≡ taken_all (or_blank (is_number 3 0) ∷ or_blank (is_number 6 1) ∷ []) line.now at }
 {
-    let size_at = fields::number_or_blank(line, at, 3, 0);
-    if size_at == 0 {
-        return 0;
-    }
+    let size_at = fields::number_or_blank(line, at, 3, 0)?;
     fields::number_or_blank(line, size_at, 6, 1)
 }
 
 // The first six fields.
-fn first_fields(line: &[u8]) -> Start
+#[tactic(auto, using(crate::proofs::StartFields::start_laws))]
+fn first_fields(line: &[u8]) -> Option<Start>
     requires { 7 ≤ length (fields_of line.now) }
     ensures { result ≡ start_of line.now }
 {
-    let edition_at = name_and_date(line);
-    if edition_at == 0 {
-        return NO_START;
-    }
-    let issued_at = fields::number(line, edition_at, 3, 0);
-    if issued_at == 0 {
-        return NO_START;
-    }
-    let update_at = fields::date_or_blank(line, issued_at);
-    if update_at == 0 {
-        return NO_START;
-    }
-    let next = update_and_size(line, update_at);
-    if next == 0 {
-        return NO_START;
-    }
-    Start {
+    let edition_at = name_and_date(line)?;
+    let issued_at = fields::number(line, edition_at, 3, 0)?;
+    let update_at = fields::date_or_blank(line, issued_at)?;
+    let next = update_and_size(line, update_at)?;
+    Some(Start {
         edition: fields::value(line, edition_at),
         update: fields::value(line, update_at),
         next,
-    }
+    })
 }
 
-// The place after n fields of degrees, or 0.
-fn degrees_fields(line: &[u8], at: usize, n: usize) -> usize
+// The place after n fields of degrees, or None.
+fn degrees_fields(line: &[u8], at: usize, n: usize) -> Option<usize>
     requires { n < fields_left line.now at }
     ensures { result ≡ taken_all (replicate n (or_blank is_degrees)) line.now at }
 {
     let mut place = at;
-    let mut i: usize = 0;
-    while i < n {
-        place = fields::degrees_or_blank(line, place);
-        if place == 0 {
-            return 0;
-        }
-        i += 1;
+    for _ in 0..n {
+        place = fields::degrees_or_blank(line, place)?;
     }
-    place
+    Some(place)
 }
 
-// The place after compression, encryption, base cell update number and last update of the previous edition, or 0.
-fn small_numbers(line: &[u8], at: usize) -> usize
+// The place after compression, encryption, base cell update number and last update of the previous edition, or None.
+#[tactic(auto, using(crate::proofs::FieldLists::more_fields, crate::proofs::TakenRows::left_after, crate::proofs::TakenRows::all_next, crate::proofs::TakenRows::all_none, crate::proofs::TakenRows::all_one))]
+fn small_numbers(line: &[u8], at: usize) -> Option<usize>
     requires { 5 ≤ fields_left line.now at }
     ensures { result ≡ taken_all (or_blank (is_number 2 0) ∷ or_blank (is_number 2 0) ∷ or_blank (is_digits 3) ∷ or_blank (is_digits 3) ∷ []) line.now at }
 {
-    let encryption_at = fields::number_or_blank(line, at, 2, 0);
-    if encryption_at == 0 {
-        return 0;
-    }
-    let base_at = fields::number_or_blank(line, encryption_at, 2, 0);
-    if base_at == 0 {
-        return 0;
-    }
-    let previous_at = fields::digits_or_blank(line, base_at);
-    if previous_at == 0 {
-        return 0;
-    }
+    let encryption_at = fields::number_or_blank(line, at, 2, 0)?;
+    let base_at = fields::number_or_blank(line, encryption_at, 2, 0)?;
+    let previous_at = fields::digits_or_blank(line, base_at)?;
     fields::digits_or_blank(line, previous_at)
 }
 
 // Whether the last six fields are of their forms.
+#[tactic(auto, using(crate::proofs::LastFields::last_laws))]
 fn last_fields(line: &[u8], at: usize) -> bool
     requires { fields_left line.now at ≡ 6 }
     ensures { result ≡ fits last_forms (fields_of (drop at line.now)) }
 {
-    let location_at = small_numbers(line, at);
-    if location_at == 0 {
+    let Some(location_at) = small_numbers(line, at) else {
         return false;
-    }
-    let replacements_at = fields::location_or_blank(line, location_at);
-    if replacements_at == 0 {
+    };
+    let Some(replacements_at) = fields::location_or_blank(line, location_at) else {
         return false;
-    }
+    };
     text::reading::all_of(
         Alphabet::Printable,
         line,
@@ -190,37 +128,34 @@ fn last_fields(line: &[u8], at: usize) -> bool
 }
 
 // Whether the fields after the first six are of their forms: n of degrees, and the last six.
+#[tactic(auto, using(crate::proofs::Rows::no_degrees, crate::proofs::Rows::last_six, crate::proofs::Rows::then_last))]
 fn rest_fits(line: &[u8], at: usize, n: usize) -> bool
-    requires { (0 < at) × (fields_left line.now at ≡ n + 6) }
+    requires { fields_left line.now at ≡ n + 6 }
     ensures { result ≡ fits (replicate n (or_blank is_degrees) ++ last_forms) (fields_of (drop at line.now)) }
 {
-    let last_at = degrees_fields(line, at, n);
-    if last_at == 0 {
+    let Some(last_at) = degrees_fields(line, at, n) else {
         return false;
-    }
+    };
     last_fields(line, last_at)
 }
 
 // A line, given without its CR LF.
-pub fn read_row(line: &[u8]) -> Read
+#[tactic(auto, using(crate::proofs::Rows::rest_left, crate::proofs::Rows::rest_wrong, crate::proofs::Rows::row_right))]
+pub fn read_row(line: &[u8]) -> Option<Row>
     ensures { result ≡ read_row line.now }
 {
     let n = commas(line);
     if n < 15 {
-        return Read::Wrong;
+        return None;
     }
     if 35 < n {
-        return Read::Wrong;
+        return None;
     }
-    let start = first_fields(line);
-    let next = start.next;
-    if next == 0 {
-        return Read::Wrong;
+    let start = first_fields(line)?;
+    if !rest_fits(line, start.next, n - 11) {
+        return None;
     }
-    if !rest_fits(line, next, n - 11) {
-        return Read::Wrong;
-    }
-    Read::Cell(Row {
+    Some(Row {
         name: octets::numbers::number64(line, 0),
         edition: start.edition,
         update: start.update,

@@ -1,7 +1,7 @@
 -- What an answer depends on: the rows, and of these the cell's own.
 -- Assumes nothing.
 use mathlib.Core.Path.{◌≡◌, refl, sym, ap, ◌∙◌}
-use mathlib.Core.Bool.{Bool, true, false, cond, not, ◌&&◌}
+use mathlib.Core.Bool.{Bool, true, false, not, ◌&&◌}
 use mathlib.Core.List.{List, [], ◌∷◌}
 use mathlib.Core.Logic.{inl, inr}
 use Prim.Native.Nat.{ℕ, zero, suc, ◌<◌}
@@ -10,17 +10,18 @@ use native.Mathlib.Omega.{arith}
 use borrow.Author.Tests.{ltb-true, lt-ltb, eqb-true, eq-eqb, ne_eqb}
 use lib.Dec.{ltb, eqb}
 use lib.ListN.{length, get_or, length-map}
+use Rattle.std.proofs.Common.{Option, Some, Result, Ok}
 use Rattle.octets.proofs.Every.{either, and_first, and_second, or_first, or_second, never_both}
 use Rattle.forms.specs.Order.{demand}
+use Rattle.forms.specs.Refusals.{refused}
+use Rattle.forms.specs.declared.refusals.Refusal.{Refusal}
 use Rattle.product_row.specs.declared.Row.{Row}
 use Rattle.product_names.specs.Repeats.{stands_in, repeats}
 use Rattle.products.specs.Listing.{is_listing, rows_of}
 use Rattle.products.specs.Answers.{is_ships, is_behind, own_row, names_of, standing_by, standing_of}
 use Rattle.products.specs.Promises.{RowsDecide, OwnRowDecides, NoOtherRow, Before, BehindIsBefore, OneRowEach, TwiceExactly}
-use Rattle.products.specs.declared.Own.{Own}
-use Rattle.products.specs.declared.Own.TheVariants.{Listed, Nothing}
-use Rattle.products.specs.declared.Answer.{Answer}
-use Rattle.products.specs.declared.Answer.TheVariants.{UpToDate, Behind, Cancelled, NotListed, Refused}
+use Rattle.products.specs.declared.standings.Standing.{Standing}
+use Rattle.products.specs.declared.standings.Standing.TheVariants.{UpToDate, Behind}
 
 -- lists that are good or bad alike, and have the same rows where they are good
 pub same_answers
@@ -65,7 +66,7 @@ module _ (edition update : ℕ) (row : Row) where
       (λ other. rw (other, eq-eqb edition row.edition same.0, lt-ltb update row.update same.1))
 
 -- a row that is not cancelled
-by_row : (row : Row) (edition update : ℕ) → (row.edition ≡ 0 → ⊥) → standing_by (Listed row) edition update ≡ demand (is_behind edition update row) UpToDate Behind
+by_row : (row : Row) (edition update : ℕ) → (row.edition ≡ 0 → ⊥) → standing_by (Some row) edition update ≡ demand (is_behind edition update row) UpToDate Behind
 unfolding standing_by
 by_row row edition update on = either (is_behind edition update row) (λ low. rw (ne_eqb row.edition 0 on, low)) (λ up. rw (ne_eqb row.edition 0 on, up))
 
@@ -75,9 +76,9 @@ behind_told false e = cc
 
 pub behind_is_before : BehindIsBefore
 behind_is_before list name edition update row ships good own on =
-    let answer : standing_of list name edition update ≡ demand (is_behind edition update row) UpToDate Behind =
-    own_row_decides list name edition update ships good ∙ ap (λ (o : Own). standing_by o edition update) own ∙ by_row row edition update on in (
-      λ behind. is_before edition update row (behind_told (is_behind edition update row) (sym answer ∙ behind)),
+    let answer : standing_of list name edition update ≡ Ok (demand (is_behind edition update row) UpToDate Behind) =
+    own_row_decides list name edition update ships good ∙ ap (λ (o : Option Row). Ok (standing_by o edition update)) own ∙ ap Ok (by_row row edition update on) in (
+      λ behind. let told = sym answer ∙ behind in is_before edition update row (behind_told (is_behind edition update row) cc),
       λ before. answer ∙ rw (before_is edition update row before),
     )
 
@@ -106,45 +107,19 @@ one_row_each list good i j hi hj e =
     let size : length names ≡ length (rows_of list) = length-map (rows_of list) (λ (row : Row). row.name) in
     one_place names good.1 i j (omega (arith, size)) (omega (arith, size)) e
 
--- no standing is a refusal
-abbrev is_refused : Answer → Bool
-is_refused UpToDate = false
-is_refused Behind = false
-is_refused Cancelled = false
-is_refused NotListed = false
-is_refused (Refused n) = true
-
-by_tests : (a b : Bool) → is_refused (cond a Cancelled (cond b Behind UpToDate)) ≡ false
-by_tests true b = refl
-by_tests false true = refl
-by_tests false false = refl
-
-no_refusal : (own : Own) (edition update : ℕ) → is_refused (standing_by own edition update) ≡ false
-unfolding standing_by
-no_refusal Nothing edition update = refl
-no_refusal (Listed row) edition update = by_tests (eqb row.edition 0) (is_behind edition update row)
-
-abbrev number_in : Answer → ℕ
-number_in UpToDate = 0
-number_in Behind = 0
-number_in Cancelled = 0
-number_in NotListed = 0
-number_in (Refused n) = n
-
 -- 110 is the last of the demands
 last-refused
-    : (a b c : Bool) (s : Answer) → is_refused s ≡ false → demand a (Refused 103) (demand b (Refused 12) (demand (not c) (Refused 110) s)) ≡ Refused 110
+    : (a b c : Bool) (s : Standing) → ◌≡◌ {A = Result Standing Refusal} (demand a (refused 103) (demand b (refused 12) (demand (not c) (refused 110) (Ok s)))) (refused 110)
     → (a ≡ true) × ((b ≡ true) × (c ≡ true))
-last-refused true true true s standing e = (refl, (refl, refl))
-last-refused true true false s standing e = absurd (never_both (is_refused s) standing (ap is_refused e))
-last-refused true false c s standing e = absurd (omega (arith, ap number_in e))
-last-refused false b c s standing e = absurd (omega (arith, ap number_in e))
+last-refused true true true s e = (refl, (refl, refl))
+last-refused true true false s e = cc
+last-refused true false c s e = cc
+last-refused false b c s e = cc
 
 pub twice_exactly : TwiceExactly
 unfolding standing_of
 twice_exactly list name edition update = (
-  λ refused.
-      last-refused (is_ships name edition update) (is_listing list) (repeats (names_of (rows_of list))) (standing_by (own_row name (rows_of list)) edition update)
-      (no_refusal (own_row name (rows_of list)) edition update) refused,
+  λ told.
+      last-refused (is_ships name edition update) (is_listing list) (repeats (names_of (rows_of list))) (standing_by (own_row name (rows_of list)) edition update) told,
   λ ships good two. rw (ships, good, two),
 )

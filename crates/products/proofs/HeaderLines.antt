@@ -1,12 +1,12 @@
 -- The lines of the header, each by its tests.
 -- Assumes nothing.
 use mathlib.Core.Path.{◌≡◌, sym, ap, ◌∙◌}
-use mathlib.Core.Bool.{true, false, and-false, or-true}
+use mathlib.Core.Bool.{true, false, not, ◌&&◌, and-false, or-true}
 use mathlib.Core.List.{List, [], ◌∷◌}
 use Prim.Native.Nat.{ℕ, ◌-◌, ◌≤◌, ◌<◌}
 use native.Mathlib.Omega.{arith}
-use borrow.Author.Tests.{ne_eqb, leb-true, le-leb, lt-leb}
-use lib.Dec.{leb}
+use borrow.Author.Tests.{ne_eqb, eqb-true, eqb-false, leb-true, le-leb, lt-leb}
+use lib.Dec.{leb, eqb}
 use lib.ListN.{length, get_or, take, drop, length-drop}
 use lib.Seq.{take_all, take-length, get_or-drop}
 use Rattle.octets.specs.Every.{all_of}
@@ -86,3 +86,14 @@ module _ (line : List ℕ) where
       ∙ sym
       (all_inside is_digit (length line - 9) line 9 (omega arith)
       ∙ ap (all_of is_digit) (take_all (length line - 9) (drop 9 line) (omega (arith, size)))))
+
+  pub version_by : 10 ≤ length line → length line ≤ 11
+      → is_version_line line ≡ (stands_at version_mark line 0 && (not (eqb (get_or line 9 0) 48) && all_at is_digit (length line - 9) line 9))
+  unfolding is_version_line
+  version_by some short =
+      either (stands_at version_mark line 0)
+      (λ marked.
+      either (eqb (get_or line 9 0) 48)
+      (λ zero. leading_zero (eqb-true (get_or line 9 0) 48 zero) ∙ sym (rw (marked, zero)))
+      (λ other. version-digits marked some short (eqb-false (get_or line 9 0) 48 other) ∙ sym (rw (marked, other))))
+      (λ bad. rw bad)

@@ -9,6 +9,7 @@ use native.Mathlib.Omega.{arith}
 use borrow.Author.Tests.{le-leb, lt-leb, leb-true, leb-false}
 use lib.Dec.{leb}
 use lib.ListN.{length, take, drop}
+use Rattle.std.proofs.Common.{Option, None, Some}
 use Rattle.octets.proofs.Every.{either}
 use Rattle.text.specs.Texts.{same_text}
 use Rattle.file_lines.specs.Lines.{line_at, line_found, ecs}
@@ -55,17 +56,25 @@ no_kind Content = refl
 no_kind Enc = refl
 
 module _ (kind : Kind) (list : List ℕ) (at : ℕ) where
-  pub by_test : (end : ℕ) → line_found list at ≡ found.Line end → passed kind list at ≡ cond (kind_test kind (line_at list at)) (end + 2) 0
+  pub by_test : (end : ℕ) → line_found list at ≡ found.Line end → passed kind list at ≡ cond (kind_test kind (line_at list at)) (Some (end + 2)) None
   unfolding passed
   by_test end made = rw made
 
-  pub by_none : line_found list at ≡ found.Unended → passed kind list at ≡ 0
+  by_none : line_found list at ≡ found.Unended → passed kind list at ≡ None
   unfolding passed
   by_none made = rw made
 
-  pub by_end : line_found list at ≡ found.End → passed kind list at ≡ 0
+  by_end : line_found list at ≡ found.End → passed kind list at ≡ None
   unfolding passed
   by_end made = rw made
+
+  by_other : (f : LineFound) → line_found list at ≡ f → ((end : ℕ) → f ≡ found.Line end → ⊥) → passed kind list at ≡ None
+  by_other (found.Line end) e other = absurd (other end refl)
+  by_other found.Unended e other = by_none e
+  by_other found.End e other = by_end e
+
+  pub no_line : ((end : ℕ) → line_found list at ≡ found.Line end → ⊥) → passed kind list at ≡ None
+  no_line other = by_other (line_found list at) refl other
 
 module _ (kind : Kind) (forms : List Form) (k : ℕ) (list : List ℕ) (at : ℕ) where
   abbrev here : Bool
@@ -85,15 +94,15 @@ module _ (kind : Kind) (forms : List Form) (k : ℕ) (list : List ℕ) (at : ℕ
   by_ecs ls e = ap (headed (suc k) (kind_test kind ∷ forms)) e ∙ headed-first (kind_test kind) forms k ecs ls ∙ rw (no_kind kind)
 
   -- a line that does not pass ends the header
-  stop : (f : LineFound) → line_found list at ≡ f → passed kind list at ≡ 0 → here ≡ false
+  stop : (f : LineFound) → line_found list at ≡ f → None ≡ passed kind list at → here ≡ false
   stop (found.Line end) e none =
       either (kind_test kind (line_at list at))
-      (λ good. absurd (omega (arith, none, rw good at (by_test kind list at end e))))
+      (λ good. let there = rw good at (by_test kind list at end e) in cc)
       (λ bad. by_line end e ∙ rw bad)
   stop found.Unended e none = by_one (lines_unended list at e)
   stop found.End e none = ⊎_elim (λ one. by_one one) (λ more. by_ecs _ more) (lines-at-end list at e)
 
-  pub stops : passed kind list at ≡ 0 → here ≡ false
+  pub stops : None ≡ passed kind list at → here ≡ false
   stops none = stop (line_found list at) refl none
 
   -- one that passes leaves the others
@@ -102,31 +111,23 @@ module _ (kind : Kind) (forms : List Form) (k : ℕ) (list : List ℕ) (at : ℕ
       (here ≡ headed k forms (lines_of (drop next list)))
       × ((lines_of (drop at list) ≡ line_at list at ∷ lines_of (drop next list)) × (next ≤ length list))
 
-  go_on : (f : LineFound) → line_found list at ≡ f → (passed kind list at ≡ 0 → ⊥) → Left (passed kind list at)
-  go_on (found.Line end) e some =
-      either (kind_test kind (line_at list at))
-      (λ good. rw (by_test kind list at end e, good) (by_line end e ∙ rw good, (lines_at_line list at end e, (line_bounds list at end e).1.1)))
-      (λ bad. absurd (some (by_test kind list at end e ∙ rw bad)))
-  go_on found.Unended e some = absurd (some (by_none kind list at e))
-  go_on found.End e some = absurd (some (by_end kind list at e))
+  module _ (next : ℕ) (some : Some next ≡ passed kind list at) where
+    go_on : (f : LineFound) → line_found list at ≡ f → Left next
+    go_on (found.Line end) e =
+        either (kind_test kind (line_at list at))
+        (λ good.
+        let there = rw good at (by_test kind list at end e) in
+        let place : next ≡ end + 2 = cc in
+        rw place (by_line end e ∙ rw good, (lines_at_line list at end e, (line_bounds list at end e).1.1)))
+        (λ bad. let none = rw bad at (by_test kind list at end e) in cc)
+    go_on found.Unended e = let none = by_none kind list at e in cc
+    go_on found.End e = let none = by_end kind list at e in cc
 
-  pub goes_on : (passed kind list at ≡ 0 → ⊥) → Left (passed kind list at)
-  goes_on some = go_on (line_found list at) refl some
+    pub goes_on : Left next
+    goes_on = go_on (line_found list at) refl
 
 -- the four lines
 module _ (list : List ℕ) where
-  abbrev pub second : ℕ
-  second = passed Date list 0
-
-  abbrev pub third : ℕ
-  third = passed Version list second
-
-  abbrev pub fourth : ℕ
-  fourth = passed Content list third
-
-  abbrev pub fifth : ℕ
-  fifth = passed Enc list fourth
-
   abbrev after_content : List Form
   after_content = kind_test Enc ∷ []
 
@@ -140,39 +141,34 @@ module _ (list : List ℕ) where
   unfolding is_header
   whole = refl
 
-  fails : is_header (lines_of list) ≡ false → Begins list 0
-  fails wrong = (λ zero. wrong, λ some. absurd (some refl))
+  pub no_date_lem : None ≡ passed Date list 0 → Begins list None
+  no_date_lem none = whole ∙ stops Date after_date 3 list 0 none
 
-  pub no_date_lem : second ≡ 0 → Begins list 0
-  no_date_lem none = fails (whole ∙ stops Date after_date 3 list 0 none)
-
-  module _ (one : second ≡ 0 → ⊥) where
+  module _ (second : ℕ) (one : Some second ≡ passed Date list 0) where
     abbrev first-left : Left Date after_date 3 list 0 second
-    first-left = goes_on Date after_date 3 list 0 one
+    first-left = goes_on Date after_date 3 list 0 second one
 
-    pub no-version : third ≡ 0 → Begins list 0
-    no-version none = fails (whole ∙ first-left.0 ∙ stops Version after_version 2 list second none)
+    pub no_version : None ≡ passed Version list second → Begins list None
+    no_version none = whole ∙ first-left.0 ∙ stops Version after_version 2 list second none
 
-    module _ (two : third ≡ 0 → ⊥) where
+    module _ (third : ℕ) (two : Some third ≡ passed Version list second) where
       abbrev second-left : Left Version after_version 2 list second third
-      second-left = goes_on Version after_version 2 list second two
+      second-left = goes_on Version after_version 2 list second third two
 
-      pub no-content : fourth ≡ 0 → Begins list 0
-      no-content none = fails (whole ∙ first-left.0 ∙ second-left.0 ∙ stops Content after_content 1 list third none)
+      pub no_content : None ≡ passed Content list third → Begins list None
+      no_content none = whole ∙ first-left.0 ∙ second-left.0 ∙ stops Content after_content 1 list third none
 
-      module _ (three : fourth ≡ 0 → ⊥) where
+      module _ (fourth : ℕ) (three : Some fourth ≡ passed Content list third) where
         abbrev third-left : Left Content after_content 1 list third fourth
-        third-left = goes_on Content after_content 1 list third three
+        third-left = goes_on Content after_content 1 list third fourth three
 
         to-enc : is_header (lines_of list) ≡ headed 1 (kind_test Enc ∷ []) (lines_of (drop fourth list))
         to-enc = whole ∙ first-left.0 ∙ second-left.0 ∙ third-left.0
 
-        pub begins : Begins list fifth
-        begins = (
-          λ none. to-enc ∙ stops Enc [] 0 list fourth none,
-          λ four.
-              let last = goes_on Enc [] 0 list fourth four in (
-                to-enc ∙ last.0 ∙ headed_none (drop fifth list),
-                (sym (ap (drop 4) first-left.1.0 ∙ ap (drop 3) second-left.1.0 ∙ ap (drop 2) third-left.1.0 ∙ ap (drop 1) last.1.0), last.1.1),
-              ),
-        )
+        pub begins : (fifth : Option ℕ) → fifth ≡ passed Enc list fourth → Begins list fifth
+        begins None none = to-enc ∙ stops Enc [] 0 list fourth none
+        begins (Some fifth) four =
+            let last = goes_on Enc [] 0 list fourth fifth four in (
+              to-enc ∙ last.0 ∙ headed_none (drop fifth list),
+              (sym (ap (drop 4) first-left.1.0 ∙ ap (drop 3) second-left.1.0 ∙ ap (drop 2) third-left.1.0 ∙ ap (drop 1) last.1.0), last.1.1),
+            )

@@ -2,7 +2,7 @@ pub mod RowsPassed
 pub mod InOrder
 pub mod HeaderLines
 pub mod Headers
-pub mod Standings
+pub mod ByRow
 pub mod Answered
 pub mod Depending
 pub mod PassedOver

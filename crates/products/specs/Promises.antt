@@ -1,14 +1,14 @@
 -- What the product list promises: what an answer depends on, and what it does not.
-use Rattle.std.specs.Prelude.{◌≡◌, true, false, List, ◌++◌, ◌⊎◌, ℕ, ◌<◌, length, get_or}
+use Rattle.std.specs.Prelude.{◌≡◌, Some, Ok, true, false, List, ◌++◌, ◌⊎◌, ℕ, ◌<◌, length, get_or}
 use Rattle.text.specs.Ascii.{ascii}
 use Rattle.file_lines.specs.EncPart.{lines_of}
 use Rattle.file_lines.specs.Dated.{is_below}
+use Rattle.forms.specs.Refusals.{refused}
 use Rattle.product_row.specs.declared.Row.{Row}
 use Rattle.product_names.specs.Repeats.{repeats}
 use Rattle.products.specs.Listing.{is_date_line, is_header, after_header, is_listing, rows_of}
 use Rattle.products.specs.Answers.{is_ships, own_row, names_of, standing_by, standing_of}
-use Rattle.products.specs.declared.Own.TheVariants.{Listed}
-use Rattle.products.specs.declared.Answer.TheVariants.{Behind, Refused}
+use Rattle.products.specs.declared.standings.Standing.TheVariants.{Behind}
 
 -- a good list: header and every row are, and no name stands twice
 abbrev pub GoodList : List ℕ → Type 0
@@ -24,7 +24,7 @@ RowsDecide =
 abbrev pub OwnRowDecides : Type 0
 OwnRowDecides =
     (list : List ℕ) (name edition update : ℕ) → is_ships name edition update ≡ true → GoodList list
-    → standing_of list name edition update ≡ standing_by (own_row name (rows_of list)) edition update
+    → standing_of list name edition update ≡ Ok (standing_by (own_row name (rows_of list)) edition update)
 
 -- and nothing else counts: neither the order of the rows nor another cell's row
 abbrev pub NoOtherRow : Type 0
@@ -40,9 +40,9 @@ Before edition update row = (edition < row.edition) ⊎ ((edition ≡ row.editio
 abbrev pub BehindIsBefore : Type 0
 BehindIsBefore =
     (list : List ℕ) (name edition update : ℕ) (row : Row) → is_ships name edition update ≡ true → GoodList list
-    → own_row name (rows_of list) ≡ Listed row → (row.edition ≡ 0 → ⊥)
-    → (standing_of list name edition update ≡ Behind → Before edition update row)
-    × (Before edition update row → standing_of list name edition update ≡ Behind)
+    → own_row name (rows_of list) ≡ Some row → (row.edition ≡ 0 → ⊥)
+    → (standing_of list name edition update ≡ Ok Behind → Before edition update row)
+    × (Before edition update row → standing_of list name edition update ≡ Ok Behind)
 
 -- a good list has one row at most for a cell
 abbrev pub OneRowEach : Type 0
@@ -54,10 +54,10 @@ OneRowEach =
 abbrev pub TwiceExactly : Type 0
 TwiceExactly =
     (list : List ℕ) (name edition update : ℕ)
-    → (standing_of list name edition update ≡ Refused 110
+    → (standing_of list name edition update ≡ refused 110
     → (is_ships name edition update ≡ true) × ((is_listing list ≡ true) × (repeats (names_of (rows_of list)) ≡ true)))
     × (is_ships name edition update ≡ true → is_listing list ≡ true → repeats (names_of (rows_of list)) ≡ true
-    → standing_of list name edition update ≡ Refused 110)
+    → standing_of list name edition update ≡ refused 110)
 
 -- what follows the line :ECS does not matter
 abbrev pub EcsPassedOver : Type 0

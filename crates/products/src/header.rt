@@ -18,41 +18,28 @@ enum Kind {
 }
 
 // Whether a line is a text.
+#[tactic(auto, using(crate::proofs::HeaderLines::other_length, crate::proofs::HeaderLines::same_length))]
 fn is_text(line: &[u8], text: &[u8]) -> bool
     ensures { result ≡ same_text line.now text.now }
 {
-    if line.len() != text.len() {
-        return false;
-    }
-    stands_at(text, line, 0)
+    line.len() == text.len() && stands_at(text, line, 0)
 }
 
 // `:DATE YYYYMMDD HH:MM`, with seconds or without.
+#[tactic(auto, unfolding(crate::specs::Listing::is_date_line, crate::specs::Listing::is_time_end))]
 fn is_date_line(line: &[u8]) -> bool
     ensures { result ≡ is_date_line line.now }
 {
-    if !file_lines::is_dated(line) {
-        return false;
-    }
-    if line.len() == 20 {
-        return true;
-    }
-    if line.len() != 23 {
-        return false;
-    }
-    if byte_at(line, 20) != b':' {
-        return false;
-    }
-    file_lines::is_below(60, line, 21)
+    let n = line.len();
+    file_lines::is_dated(line)
+        && (n == 20 || n == 23 && byte_at(line, 20) == b':' && file_lines::is_below(60, line, 21))
 }
 
 // `:VERSION n`, 1 to 99 without a leading zero.
+#[tactic(auto, using(crate::proofs::HeaderLines::version_by, crate::proofs::HeaderLines::too_short, crate::proofs::HeaderLines::too_long))]
 fn is_version_line(line: &[u8]) -> bool
     ensures { result ≡ is_version_line line.now }
 {
-    if !stands_at(b":VERSION ", line, 0) {
-        return false;
-    }
     let n = line.len();
     if n < 10 {
         return false;
@@ -60,23 +47,21 @@ fn is_version_line(line: &[u8]) -> bool
     if 11 < n {
         return false;
     }
-    if byte_at(line, 9) == b'0' {
-        return false;
-    }
-    text::reading::all_of(Alphabet::Digit, line, 9, n - 9)
+    stands_at(b":VERSION ", line, 0)
+        && byte_at(line, 9) != b'0'
+        && text::reading::all_of(Alphabet::Digit, line, 9, n - 9)
 }
 
 // A full list, or a part of one.
+#[tactic(auto, unfolding(crate::specs::Listing::is_content_line))]
 fn is_content_line(line: &[u8]) -> bool
     ensures { result ≡ is_content_line line.now }
 {
-    if is_text(line, b":CONTENT FULL") {
-        return true;
-    }
-    is_text(line, b":CONTENT PARTIAL")
+    is_text(line, b":CONTENT FULL") || is_text(line, b":CONTENT PARTIAL")
 }
 
 // Whether a line is the header's line of the kind.
+#[tactic(auto, unfolding(crate::specs::Listing::is_enc_line))]
 fn is_of(kind: Kind, line: &[u8]) -> bool
     ensures { result ≡ kind_test kind line.now }
 {
@@ -88,38 +73,26 @@ fn is_of(kind: Kind, line: &[u8]) -> bool
     }
 }
 
-// The place after a line of the kind; 0 where another stands there.
-fn past(kind: Kind, list: &[u8], at: usize) -> usize
+// The place after a line of the kind, or None where another stands there. A kind is given and no test, so that the contract says by name what the test is.
+fn past(kind: Kind, list: &[u8], at: usize) -> Option<usize>
     ensures { result ≡ passed kind list.now at }
 {
-    match file_lines::line_at(list, at) {
-        LineFound::Line(end) => {
-            if is_of(kind, &list[at..end]) {
-                end + 2
-            } else {
-                0
-            }
-        }
-        LineFound::Unended => 0,
-        LineFound::End => 0,
+    let LineFound::Line(end) = file_lines::line_at(list, at) else {
+        return None;
+    };
+    if !is_of(kind, &list[at..end]) {
+        return None;
     }
+    Some(end + 2)
 }
 
-// Where the rows begin; 0 where the header is wrong.
-pub(crate) fn rows_begin(list: &[u8]) -> usize
+// Where the rows begin, or None where the header is wrong.
+#[tactic(auto, using(crate::proofs::Headers::no_date_lem, crate::proofs::Headers::no_version, crate::proofs::Headers::no_content, crate::proofs::Headers::begins))]
+pub(crate) fn rows_begin(list: &[u8]) -> Option<usize>
     ensures { Begins list.now result }
 {
-    let version = past(Kind::Date, list, 0);
-    if version == 0 {
-        return 0;
-    }
-    let content = past(Kind::Version, list, version);
-    if content == 0 {
-        return 0;
-    }
-    let enc = past(Kind::Content, list, content);
-    if enc == 0 {
-        return 0;
-    }
+    let version = past(Kind::Date, list, 0)?;
+    let content = past(Kind::Version, list, version)?;
+    let enc = past(Kind::Content, list, content)?;
     past(Kind::Enc, list, enc)
 }

@@ -2,59 +2,46 @@
 ghost use Rattle.std.specs.Prelude.{◌≡◌};
 ghost use Rattle.products.specs.Reading.{first_of, own_if, rows_read};
 
-use super::Own;
 use file_lines::LineFound;
-use product_row::{Read, Row};
+use product_row::Row;
 
-// What reading all rows gives: the cell's own row, and whether the rows are in name order.
+// What reading all rows gives: the cell's own row, where the list has one, and whether the rows are in name order.
 #[derive(Clone, Copy)]
-pub(crate) enum RowsRead {
-    Good(Own, bool),
-    Wrong,
+pub(crate) struct Rows {
+    pub(crate) own: Option<Row>,
+    pub(crate) rising: bool,
 }
 
 // The row that was found, or this one where it has the name.
-fn found(own: Own, row: Row, name: u64) -> Own
+fn found(own: Option<Row>, row: Row, name: u64) -> Option<Row>
     ensures { result ≡ first_of own (own_if name row) }
 {
-    match own {
-        Own::Listed(before) => Own::Listed(before),
-        Own::Nothing => {
-            if row.name == name {
-                Own::Listed(row)
-            } else {
-                Own::Nothing
-            }
-        }
+    if own.is_none() && row.name == name {
+        return Some(row);
     }
+    own
 }
 
-// Reads every row from a place on, those after the asked one too.
-pub(crate) fn read(list: &[u8], first: usize, name: u64) -> RowsRead
+// Reads every row from a place on, those after the asked one too; None where one is wrong, or the part is not closed. No `for`: a line ends where it is found to end.
+pub(crate) fn read(list: &[u8], first: usize, name: u64) -> Option<Rows>
     ensures { result ≡ rows_read list.now first name }
 {
     let mut at = first;
     let mut last: u64 = 0;
     let mut rising = true;
-    let mut own = Own::Nothing;
+    let mut own = None;
     while at < list.len() {
         match file_lines::line_at(list, at) {
             LineFound::Line(end) => {
-                let Read::Cell(row) = product_row::read_row(&list[at..end]) else {
-                    return RowsRead::Wrong;
-                };
+                let row = product_row::read_row(&list[at..end])?;
                 rising = rising & (last < row.name);
                 last = row.name;
                 own = found(own, row, name);
                 at = end + 2;
             }
-            LineFound::Unended => {
-                return RowsRead::Wrong;
-            }
-            LineFound::End => {
-                return RowsRead::Good(own, rising);
-            }
+            LineFound::Unended => return None,
+            LineFound::End => break,
         }
     }
-    RowsRead::Good(own, rising)
+    Some(Rows { own, rising })
 }

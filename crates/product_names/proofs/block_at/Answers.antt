@@ -1,6 +1,6 @@
 -- `product_names::block_at` meets its contract. The invariant is `Looked`, which each way round keeps by one of its laws.
 -- Assumes nothing.
-use Rattle.std.proofs.Common.{◌≡◌, ℕ, ◌+◌, ◌≤◌, List, [], ◌∷◌, length, sym, ap, ◌∙◌, arith, rules}
+use Rattle.std.proofs.Common.{◌≡◌, ℕ, ◌+◌, ◌≤◌, List, [], ◌∷◌, length, sym, ap, ◌∙◌, arith}
 use Rattle.file_lines.specs.Lines.{line_found}
 use Rattle.file_lines.specs.declared.LineFound.TheVariants.{Line}
 use Rattle.file_lines.proofs.Walks.{line_bounds}
@@ -10,7 +10,7 @@ use Rattle.product_names.proofs.block_at.Goals as goal
 use Rattle.product_names.proofs.block_at.Goals.{After-number64-name, In-Line, Left-loop-at, else-loop-at-test, then-loop-at-test+in_default}
 
 pub loop-at-init : goal.loop-at-init
-loop-at-init c = begun c.args.list.now c.args.place (search rules)
+loop-at-init c = begun c.args.list.now c.args.place (omega (arith, c.requires))
 
 -- a line was found at the place
 module _ (k : In-Line) where
@@ -94,7 +94,7 @@ nothing_left k =
     ]
 
 pub returns-then-at-next : goal.returns-then-at-next
-returns-then-at-next c = over c.loop-at.invariant (nothing_left (goal.at.returns-then-at-next c).Left-loop-at) c.if-at-next.true
+returns-then-at-next c = over c.loop-at.invariant (nothing_left (goal.at.returns-then-at-next c).Left-loop-at) c.requires c.if-at-next.true
 
 pub returns : goal.returns
 returns c = goes_on c.loop-at.invariant (nothing_left (goal.at.returns c).Left-loop-at) c.if-at-next.false

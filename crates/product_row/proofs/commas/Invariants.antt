@@ -1,14 +1,9 @@
--- `product_row::commas` meets its contract. The invariant: the commas counted and the fields that are left are all fields.
+-- `product_row::commas` meets its contract. The invariant: the commas counted and those that are left are all commas.
 -- Assumes nothing.
-use mathlib.Core.Path.{◌≡◌}
-use Prim.Native.Nat.{◌+◌, ◌-◌, ◌≤◌}
-use lib.ListN.{length}
-use Rattle.product_row.specs.Fields.{fields_of}
-use Rattle.product_row.specs.Taking.{fields_left}
+use Rattle.std.proofs.Common.{◌≡◌, ◌+◌, ◌≤◌, ◌==◌, length, count_by}
 use Rattle.product_row.proofs.commas.Given as goal
 
-abbrev pub invariant-loop-at : goal.invariant-loop-at
-invariant-loop-at l = (l.at ≤ length l.line) × (l.n ≤ l.at) × (l.n + fields_left l.line l.at ≡ length (fields_of l.line))
-
-abbrev pub decreases-loop-at : goal.decreases-loop-at
-decreases-loop-at l = length l.line - l.at
+abbrev pub invariant-loop-piece : goal.invariant-loop-piece
+invariant-loop-piece l =
+    (l.n + length l.piece-iterator.rest.now ≤ length l.line)
+    × (l.n + count_by (λ c. c == 44) l.piece-iterator.rest.now ≡ count_by (λ c. c == 44) l.line)

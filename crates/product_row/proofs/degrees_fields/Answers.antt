@@ -5,60 +5,57 @@ use mathlib.Core.List.{List}
 use Prim.Native.Nat.{ℕ, suc, ◌+◌, ◌-◌, ◌≤◌, ◌<◌}
 use native.Mathlib.Omega.{arith}
 use lib.ListN.{replicate}
+use Rattle.std.proofs.Common.{None, Some}
 use Rattle.product_row.specs.Fields.{or_blank, is_degrees}
 use Rattle.product_row.specs.Row.{Form}
 use Rattle.product_row.specs.Taking.{fields_left, taken, taken_all}
 use Rattle.product_row.proofs.FieldLists.{more_fields}
-use Rattle.product_row.proofs.TakenRows.{left_after, all-next, all_none}
+use Rattle.product_row.proofs.TakenRows.{left_after, all_next, all_none}
 use Rattle.product_row.proofs.degrees_fields.Goals as goal
 
 abbrev form : Form
 form = or_blank is_degrees
 
 -- one of the n - i fields that are left is taken
-module _ (n i : ℕ) (more : i < n) (line : List ℕ) (place r : ℕ) (is : r ≡ taken form line place) (left : n - i < fields_left line place) where
+module _ (n i : ℕ) (more : i < n) (line : List ℕ) (place : ℕ) (left : n - i < fields_left line place) where
   forms : replicate (n - i) form ≡ replicate (suc (n - (i + 1))) form
   forms = let count : n - i ≡ suc (n - (i + 1)) = omega arith in ap (λ (k : ℕ). replicate k form) count
 
-  none_taken : r ≡ 0 → 0 ≡ taken_all (replicate (n - i) form) line place
-  none_taken none = rw forms (all_none form line place r is (omega arith) none (replicate (n - (i + 1)) form))
+  none_taken : None ≡ taken form line place → None ≡ taken_all (replicate (n - i) form) line place
+  none_taken none = rw forms (all_none form line place none (replicate (n - (i + 1)) form))
 
-  one_taken : (r ≡ 0 → ⊥) → taken_all (replicate (n - (i + 1)) form) line r ≡ taken_all (replicate (n - i) form) line place
-  one_taken some = rw forms (all-next form line place r is (omega arith) some (replicate (n - (i + 1)) form))
+  module _ (r : ℕ) (is : Some r ≡ taken form line place) where
+    one_taken : taken_all (replicate (n - (i + 1)) form) line r ≡ taken_all (replicate (n - i) form) line place
+    one_taken = rw forms (all_next form line place r is (omega arith) (replicate (n - (i + 1)) form))
 
-  one_fewer : (r ≡ 0 → ⊥) → n - (i + 1) < fields_left line r
-  one_fewer some = omega (arith, left_after form line place r is (omega arith) some)
+    one_fewer : n - (i + 1) < fields_left line r
+    one_fewer = omega (arith, left_after form line place r is (omega arith))
 
-all_taken : (n i : ℕ) → n ≤ i → (line : List ℕ) (place : ℕ) → place ≡ taken_all (replicate (n - i) form) line place
+all_taken : (n i : ℕ) → n ≤ i → (line : List ℕ) (place : ℕ) → Some place ≡ taken_all (replicate (n - i) form) line place
 unfolding taken_all
 all_taken n i end line place =
     let none : n - i ≡ 0 = omega arith in
     rw (ap (λ (k : ℕ). replicate k form) none)
 
-pub loop-i-init : goal.loop-i-init
-loop-i-init c =
+pub loop-init : goal.loop-init
+loop-init c =
     let args = c.args in
     let none : args.n - 0 ≡ args.n = omega arith in
-    (omega arith, omega (arith, c.requires), ap (λ (k : ℕ). taken_all (replicate k form) args.line.now args.at) none)
+    (omega (arith, c.requires), ap (λ (k : ℕ). taken_all (replicate k form) args.line.now args.at) none)
 
-pub degrees_or_blank-place-requires : goal.degrees_or_blank-place-requires
-degrees_or_blank-place-requires c = more_fields _ _ (omega (arith, c.loop-i.invariant.1))
+pub degrees_or_blank-requires : goal.degrees_or_blank-requires
+degrees_or_blank-requires c = more_fields _ _ (omega (arith, c.loop.invariant.0))
 
-pub returns-then-place-eq0 : goal.returns-then-place-eq0
-returns-then-place-eq0 c =
-    let now = c.loop-i in
-    none_taken _ _ c.loop-i-test.true _ _ _ c.degrees_or_blank-place.ensures now.invariant.1 c.if-place-eq0.true ∙ now.invariant.2
+pub returns-in_err-place : goal.returns-in_err-place
+returns-in_err-place c =
+    let inv = c.loop.invariant in
+    c.from_residual.ensures ∙ none_taken _ _ c.loop-test.true _ _ inv.0 c.in_err-place.ensures ∙ inv.1
 
-pub loop-i-preserved : goal.loop-i-preserved
-loop-i-preserved c =
-    let now = c.loop-i in
-    let more = c.loop-i-test.true in (
-      omega arith,
-      one_fewer _ _ more _ _ _ c.degrees_or_blank-place.ensures now.invariant.1 c.if-place-eq0.false,
-      one_taken _ _ more _ _ _ c.degrees_or_blank-place.ensures now.invariant.1 c.if-place-eq0.false ∙ now.invariant.2,
-    )
+pub loop-preserved : goal.loop-preserved
+loop-preserved c =
+    let inv = c.loop.invariant in
+    let more = c.loop-test.true in
+    (one_fewer _ _ more _ _ inv.0 _ c.in_ok-place.ensures, one_taken _ _ more _ _ inv.0 _ c.in_ok-place.ensures ∙ inv.1)
 
 pub returns : goal.returns
-returns c =
-    let now = c.loop-i in
-    all_taken _ _ c.loop-i-test.false _ _ ∙ now.invariant.2
+returns c = all_taken _ _ c.loop-test.false _ _ ∙ c.loop.invariant.1

@@ -7,7 +7,6 @@ use Rattle.octets.specs.Every.{all_of}
 use Rattle.octets.specs.Numbers.{Below, bytes_of}
 use Rattle.octets.specs.Places.{number_at}
 use Rattle.text.specs.Characters.{is_name_character}
-use Rattle.product_row.proofs.DigitPlaces.{inside}
 use Rattle.product_row.proofs.CellFiles.{too_short, no_end, no_name, no-ending, is-file}
 use Rattle.product_row.proofs.fields.cell_file.Goals as goal
 use Rattle.product_row.proofs.fields.cell_file.Goals.{After-are_name_characters}
@@ -20,9 +19,6 @@ module _ (x : After-are_name_characters) where
   name_test : let args = x.args in
       x.are_name_characters.result ≡ all_of is_name_character (bytes_of 8 (number_at 8 args.line.now args.at))
   name_test = x.are_name_characters.ensures ∙ ap (λ (n : ℕ). all_of is_name_character (bytes_of 8 n)) x.number64.ensures
-
-pub overflow_sub-line : goal.overflow_sub-line
-overflow_sub-line c = omega (arith, inside _ _ c.requires)
 
 pub returns-then-line-at-lt13 : goal.returns-then-line-at-lt13
 returns-then-line-at-lt13 c = too_short _ _ c.requires c.if-line-at-lt13.true

@@ -6,7 +6,6 @@ use Prim.Native.Nat.{ℕ, ◌+◌, ◌*◌, ◌≤◌, ◌<◌}
 use native.Mathlib.Omega.{arith}
 use lib.ListN.{length}
 use Rattle.product_row.specs.Taking.{field_length, field_ends}
-use Rattle.product_row.proofs.DigitPlaces.{inside}
 use Rattle.product_row.proofs.FieldPlaces.{within, ends_here, goes_on, starts_other}
 use Rattle.product_row.proofs.ValueFields.{blank_value, one_value, two_value, three-value, few}
 use borrow.Author.Rules.{rules}
@@ -52,14 +51,8 @@ module _ (z : Else-line-at-eq44-3) where
       let third = goes_on (line x) (at x) (ended x) 2 (more second) z.if-line-at-eq44-3.false in
       omega (arith, few (line x) (at x) (ended x) x.requires.1 x.if-line-at-eq44.false)
 
-pub bounds-line-at : goal.bounds-line-at
-bounds-line-at c = inside _ _ c.requires.0
-
 pub returns-then-line-at-eq44 : goal.returns-then-line-at-eq44
 returns-then-line-at-eq44 c = blank_value _ _ c.requires.0 c.if-line-at-eq44.true
-
-pub bounds-line-at-2 : goal.bounds-line-at-2
-bounds-line-at-2 c = inside _ _ c.requires.0
 
 pub overflow_add-at : goal.overflow_add-at
 overflow_add-at c = let room = second_within (goal.at.overflow_add-at c).Else-line-at-eq44 in search rules

@@ -9,7 +9,7 @@ use Rattle.file_lines.specs.Lines.{line_ends, line_at, line_found}
 use Rattle.file_lines.specs.declared.LineFound.TheVariants.{Line}
 use Rattle.file_lines.proofs.Walks.{line_bounds, found_part}
 use Rattle.products.specs.Reading.{kind_test}
-use Rattle.products.proofs.Headers.{by_test, by_none, by_end}
+use Rattle.products.proofs.Headers.{by_test, no_line}
 use Rattle.products.proofs.header.past.Goals as goal
 use Rattle.products.proofs.header.past.Goals.{In-Line}
 
@@ -45,28 +45,23 @@ slice_bounds-is_of-end c = let within = bounds (goal.at.slice_bounds-is_of-end c
 pub overflow_add-result : goal.overflow_add-result
 overflow_add-result c = let within = bounds (goal.at.overflow_add-result c).In-Line in search rules
 
-pub returns-then-is_of : goal.returns-then-is_of
-returns-then-is_of c =
-    let line = (goal.at.returns-then-is_of c).In-Line in
+pub returns-in_default : goal.returns-in_default
+returns-in_default c =
+    let args = c.args in
+    sym (no_line args.kind args.list.now args.at (λ end is. c.in_default.not-Line end (c.line_at.ensures ∙ is)))
+
+pub returns-then-not-is_of : goal.returns-then-not-is_of
+returns-then-not-is_of c =
+    let line = (goal.at.returns-then-not-is_of c).In-Line in
     let kind = c.args.kind in
     sym
     (by_test kind (bytes line) (at line) (end line) (line_found_lem line)
-    ∙ rw (ap (kind_test kind) (sym (line_part line)) ∙ sym c.is_of.ensures ∙ c.if-is_of.true))
+    ∙ rw (ap (kind_test kind) (sym (line_part line)) ∙ sym c.is_of.ensures ∙ c.if-not-is_of.true))
 
-pub returns-else-is_of : goal.returns-else-is_of
-returns-else-is_of c =
-    let line = (goal.at.returns-else-is_of c).In-Line in
+pub returns : goal.returns
+returns c =
+    let line = (goal.at.returns c).In-Line in
     let kind = c.args.kind in
     sym
     (by_test kind (bytes line) (at line) (end line) (line_found_lem line)
-    ∙ rw (ap (kind_test kind) (sym (line_part line)) ∙ sym c.is_of.ensures ∙ c.if-is_of.false))
-
-pub returns-in-Unended : goal.returns-in-Unended
-returns-in-Unended c =
-    let args = c.args in
-    sym (by_none args.kind args.list.now args.at (sym c.line_at.ensures ∙ c.in-Unended.is))
-
-pub returns-in-End : goal.returns-in-End
-returns-in-End c =
-    let args = c.args in
-    sym (by_end args.kind args.list.now args.at (sym c.line_at.ensures ∙ c.in-End.is))
+    ∙ rw (ap (kind_test kind) (sym (line_part line)) ∙ sym c.is_of.ensures ∙ c.if-not-is_of.false))

@@ -39,10 +39,10 @@ slice_bounds-read_row-start c = let within = bounds (goal.at.slice_bounds-read_r
 pub slice_bounds-read_row-end : goal.slice_bounds-read_row-end
 slice_bounds-read_row-end c = let within = bounds (goal.at.slice_bounds-read_row-end c).In-Line in search rules
 
-pub returns-in_default : goal.returns-in_default
-returns-in_default c =
-    let line = (goal.at.returns-in_default c).In-Line in
-    sym (bad-row c.loop-at.invariant (end line) (line_found_lem line) (sym c.read_row.ensures ∙ c.in_default.is))
+pub returns-in_err-row-in-Line : goal.returns-in_err-row-in-Line
+returns-in_err-row-in-Line c =
+    let line = (goal.at.returns-in_err-row-in-Line c).In-Line in
+    c.from_residual.ensures ∙ sym (bad-row c.loop-at.invariant (end line) (line_found_lem line) c.in_err-row-in-Line.ensures)
 
 pub overflow_add-at : goal.overflow_add-at
 overflow_add-at c = let within = bounds (goal.at.overflow_add-at c).In-Line in search rules
@@ -56,15 +56,14 @@ pub loop-at-preserved : goal.loop-at-preserved
 loop-at-preserved c =
     let line = (goal.at.loop-at-preserved c).In-Line in
     rw c.found-own.ensures
-    (next c.loop-at.invariant (end line) (line_found_lem line) c.in-Cell.row (sym c.read_row.ensures ∙ c.in-Cell.is))
+    (next c.loop-at.invariant (end line) (line_found_lem line) _ c.in_ok-row-in-Line.ensures)
 
 pub returns-in-Unended : goal.returns-in-Unended
 returns-in-Unended c =
     sym (not_ended c.loop-at.invariant (omega arith) (sym c.line_at.ensures ∙ c.in-Unended.is))
 
 pub returns-in-End : goal.returns-in-End
-returns-in-End c =
-    sym (ended c.loop-at.invariant (sym c.line_at.ensures ∙ c.in-End.is))
+returns-in-End c = sym (ended c.loop-at.invariant (sym c.line_at.ensures ∙ c.in-End.is))
 
-pub returns : goal.returns
-returns c = sym (ran_out c.loop-at.invariant (omega arith))
+pub returns-after-loop-at : goal.returns-after-loop-at
+returns-after-loop-at c = sym (ran_out c.loop-at.invariant (omega arith))
