@@ -1,2 +1,2 @@
-pub mod Answers
 pub mod CommentParts
+pub mod DoneOr

@@ -1,17 +1,19 @@
 -- The answers about permit files in the form that C sees.
-use Rattle.std.specs.Prelude.{cond, ℕ}
-use Rattle.permit_file.specs.File.{open_number, open_place, step_number, step_values, next_place, is_end}
-use Rattle.permit_file.specs.declared.Opened.{Opened}
+use Rattle.std.specs.Prelude.{cond, ℕ, Result, Ok, Err}
+use Rattle.forms.specs.Refusals.{number_of}
+use Rattle.forms.specs.declared.refusals.Refusal.{Refusal}
+use Rattle.permit_file.specs.File.{step_number, step_values, next_place, is_end}
+use Rattle.permit_file.specs.declared.Cursor.{Cursor}
 use Rattle.permit_file.specs.declared.Step.{Step}
-use Rattle.mending.specs.declared.Answer.{Answer}
-use Rattle.mending.specs.declared.Answer.TheVariants as mending
+use Rattle.mending.specs.declared.Lengths.{Lengths}
 use Rattle.lambukir.specs.declared.files.FileOpened.{FileOpened}
 use Rattle.lambukir.specs.declared.files.FileLineRead.{FileLineRead}
 use Rattle.lambukir.specs.declared.files.FileMended.{FileMended}
 
 -- a file that was opened: the place of the first line, or the refusal
-abbrev pub file_opened : Opened → FileOpened
-file_opened o = record { place = open_place o; number = open_number o }
+abbrev pub file_opened : Result Cursor Refusal → FileOpened
+file_opened (Ok c) = record { place = c.place; number = 0 }
+file_opened (Err r) = record { place = 0; number = number_of r }
 
 -- 1 at the end of the file
 abbrev pub end_flag : Step → ℕ
@@ -48,6 +50,6 @@ file_line_read s = record {
 }
 
 -- a file that was mended: both lengths, or the refusal
-abbrev pub file_mended : Answer → FileMended
-file_mended (mending.Done size) = record { length = size.file; list_length = size.list; number = 0 }
-file_mended (mending.Refused number) = record { length = 0; list_length = 0; number = number }
+abbrev pub file_mended : Result Lengths Refusal → FileMended
+file_mended (Ok size) = record { length = size.file; list_length = size.list; number = 0 }
+file_mended (Err r) = record { length = 0; list_length = 0; number = number_of r }

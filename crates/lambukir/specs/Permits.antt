@@ -1,17 +1,12 @@
 -- The answers about permits in the form that C sees: at a refusal every field but the number is 0.
-use Rattle.std.specs.Prelude.{List, ℕ, ◌-◌, length}
-use Rattle.forms.specs.Output.{written_number}
-use Rattle.forms.specs.Output.{written_length}
-use Rattle.forms.specs.declared.Written.{Written}
-use Rattle.user_permit.specs.UserPermit.{user_permit_number}
-use Rattle.user_permit.specs.Answers.{ship_hw_id, ship_mId}
-use Rattle.user_permit.specs.declared.UserPermit.{UserPermit}
+use Rattle.std.specs.Prelude.{List, ℕ, ◌-◌, length, Option, Some, None, Result, Ok, Err}
+use Rattle.forms.specs.Refusals.{number_of}
+use Rattle.forms.specs.declared.refusals.Refusal.{Refusal}
+use Rattle.user_permit.specs.declared.Ship.{Ship}
 use Rattle.cell_permit.specs.Line.{comment_at, line_number}
 use Rattle.cell_permit.specs.Answers.{line_values}
 use Rattle.cell_permit.specs.declared.Cell.{Cell}
-use Rattle.cell_permit.specs.declared.Line.{Line}
-use Rattle.cell_permit.specs.declared.CommentPlace.{CommentPlace}
-use Rattle.cell_permit.specs.declared.CommentPlace.TheVariants as place
+use Rattle.cell_permit.specs.declared.Record.{Record}
 use Rattle.lambukir.specs.declared.permits.UserPermitRead.{UserPermitRead}
 use Rattle.lambukir.specs.declared.permits.LineRead.{LineRead}
 use Rattle.lambukir.specs.declared.permits.TextWritten.{TextWritten}
@@ -30,11 +25,12 @@ cell_from name expiry key1 key2 level edition server = record {
 }
 
 -- a user permit that was read
-abbrev pub user_permit_read : UserPermit → UserPermitRead
-user_permit_read u = record { hw = ship_hw_id u; m = ship_mId u; number = user_permit_number u }
+abbrev pub user_permit_read : Result Ship Refusal → UserPermitRead
+user_permit_read (Ok ship) = record { hw = ship.hw_id; m = ship.m_id; number = 0 }
+user_permit_read (Err r) = record { hw = 0; m = 0; number = number_of r }
 
 -- a line that was read; the number of a record is that of its notice
-abbrev pub line_read : Line → LineRead
+abbrev pub line_read : Result Record Refusal → LineRead
 line_read l = record {
   name = (line_values l).name;
   key1 = (line_values l).key1;
@@ -47,13 +43,14 @@ line_read l = record {
 }
 
 -- a text that was written
-abbrev pub text_written : Written → TextWritten
-text_written w = record { length = written_length w; number = written_number w }
+abbrev pub text_written : Result ℕ Refusal → TextWritten
+text_written (Ok n) = record { length = n; number = 0 }
+text_written (Err r) = record { length = 0; number = number_of r }
 
 -- where the comment stands in a line of so many bytes; 0 and 0 for a line that gives 12
-abbrev pub part_from : ℕ → CommentPlace → Part
-part_from size (place.At start) = record { start = start; length = size - start }
-part_from size place.None = record { start = 0; length = 0 }
+abbrev pub part_from : ℕ → Option ℕ → Part
+part_from size (Some start) = record { start = start; length = size - start }
+part_from size None = record { start = 0; length = 0 }
 
 -- the comment's part of a line
 abbrev pub comment_part : List ℕ → Part

@@ -1,7 +1,7 @@
 // The book for C.
 ghost use Rattle.std.specs.Prelude.{◌≡◌, length};
 ghost use Rattle.forms.specs.Output.{written_of, lent_after};
-ghost use Rattle.forms.specs.Output as output;
+ghost use Rattle.forms.specs.Refusals.{refusal_number};
 ghost use Rattle.tenants.specs.Rules.{change_number};
 ghost use Rattle.opening.specs.Opening.{opened};
 ghost use Rattle.carrying.specs.Carrying.{carried_over};
@@ -11,9 +11,11 @@ ghost use Rattle.asking.specs.Asking.{edition_in, holding_in, issued_from, check
 ghost use Rattle.lambukir.specs.Permits.{line_read, text_written};
 ghost use Rattle.lambukir.specs.Books.{held_of, edition_asked, held_asked, records_moved};
 
-use super::permits::{LineRead, TextWritten, line_read, text_written};
-use changing::house::Moved;
-use tenants::{Asked, Held, Holding};
+use super::number;
+use super::permits::{LineRead, TextWritten};
+use asking::Order;
+use forms::refusals::Refusal;
+use tenants::Held;
 
 // lambukir_edition of the header.
 #[repr(C)]
@@ -39,16 +41,52 @@ pub struct RecordsMoved {
     pub number: u32,
 }
 
-// The house's answer in the form that C sees.
-fn records_moved(answer: Moved) -> RecordsMoved
-    ensures { result ≡ records_moved answer }
-{
-    match answer {
-        Moved::Done(moved) => RecordsMoved { moved, number: 0 },
-        Moved::Refused(number) => RecordsMoved { moved: 0, number },
+impl From<Result<u32, Refusal>> for EditionAsked {
+    ghost from_gives = { λ answer asked. asked ≡ edition_asked answer };
+
+    fn from(answer: Result<u32, Refusal>) -> EditionAsked {
+        match answer {
+            Ok(edition) => EditionAsked { edition, number: 0 },
+            Err(refusal) => EditionAsked {
+                edition: 0,
+                number: refusal.number(),
+            },
+        }
     }
 }
 
+impl From<Result<bool, Refusal>> for HeldAsked {
+    ghost from_gives = { λ answer asked. asked ≡ held_asked answer };
+
+    fn from(answer: Result<bool, Refusal>) -> HeldAsked {
+        match answer {
+            Ok(any) => HeldAsked {
+                held: u32::from(any),
+                number: 0,
+            },
+            Err(refusal) => HeldAsked {
+                held: 0,
+                number: refusal.number(),
+            },
+        }
+    }
+}
+
+impl From<Result<u32, Refusal>> for RecordsMoved {
+    ghost from_gives = { λ answer told. told ≡ records_moved answer };
+
+    fn from(answer: Result<u32, Refusal>) -> RecordsMoved {
+        match answer {
+            Ok(moved) => RecordsMoved { moved, number: 0 },
+            Err(refusal) => RecordsMoved {
+                moved: 0,
+                number: refusal.number(),
+            },
+        }
+    }
+}
+
+#[tactic(auto, using(crate::proofs::DoneOr::number_stays))]
 #[unsafe(no_mangle)]
 pub extern "C" fn lambukir_open_book(
     book: &mut [u8],
@@ -56,20 +94,22 @@ pub extern "C" fn lambukir_open_book(
     ids: &[u8],
     principals: &[u8],
 ) -> u32
-    ensures { (result ≡ output.written_number (written_of (opened quotas.now ids.now principals.now book.old)))
+    ensures { (result ≡ refusal_number (written_of (opened quotas.now ids.now principals.now book.old)))
         × (book.new ≡ lent_after (opened quotas.now ids.now principals.now book.old) book.old) }
 {
-    opening::open_book(book, quotas, ids, principals)
+    number(opening::open_book(book, quotas, ids, principals))
 }
 
+#[tactic(auto, using(crate::proofs::DoneOr::number_stays))]
 #[unsafe(no_mangle)]
 pub extern "C" fn lambukir_carry_over(book: &[u8], new: &mut [u8]) -> u32
-    ensures { (result ≡ output.written_number (written_of (carried_over book.now (length new.old))))
+    ensures { (result ≡ refusal_number (written_of (carried_over book.now (length new.old))))
         × (new.new ≡ lent_after (carried_over book.now (length new.old)) new.old) }
 {
-    carrying::carry_over(book, new)
+    number(carrying::carry_over(book, new))
 }
 
+#[tactic(auto, using(changing::proofs::Numbers::entry_numbered))]
 #[unsafe(no_mangle)]
 pub extern "C" fn lambukir_enter(
     book: &mut [u8],
@@ -90,25 +130,28 @@ pub extern "C" fn lambukir_enter(
         key2,
         last,
     };
-    changing::enter(book, tenant, cell)
+    number(changing::enter(book, tenant, cell))
 }
 
+#[tactic(auto, using(changing::proofs::Numbers::withdrawal_numbered))]
 #[unsafe(no_mangle)]
 pub extern "C" fn lambukir_withdraw(book: &mut [u8], tenant: u32, name: u64) -> u32
     ensures { (result ≡ change_number (withdrawal book.old tenant name))
         × (book.new ≡ bytes_after tenant (withdrawal book.old tenant name) book.old) }
 {
-    changing::withdraw(book, tenant, name)
+    number(changing::withdraw(book, tenant, name))
 }
 
+#[tactic(auto, using(changing::proofs::Numbers::days_numbered))]
 #[unsafe(no_mangle)]
 pub extern "C" fn lambukir_set_days(book: &mut [u8], tenant: u32, days: u32) -> u32
     ensures { (result ≡ change_number (new_days book.old tenant days))
         × (book.new ≡ bytes_after tenant (new_days book.old tenant days) book.old) }
 {
-    changing::set_days(book, tenant, days)
+    number(changing::set_days(book, tenant, days))
 }
 
+// C has a name for each answer; both make the cell that they hand on.
 #[unsafe(no_mangle)]
 pub extern "C" fn lambukir_house_enter(
     book: &mut [u8],
@@ -129,7 +172,7 @@ pub extern "C" fn lambukir_house_enter(
         key2,
         last,
     };
-    records_moved(changing::house::enter(book, tenant, cell))
+    changing::house::enter(book, tenant, cell).into()
 }
 
 #[unsafe(no_mangle)]
@@ -137,30 +180,21 @@ pub extern "C" fn lambukir_house_withdraw(book: &mut [u8], tenant: u32, name: u6
     ensures { (result ≡ records_moved (house_answer tenant book.old (withdrawal book.old tenant name)))
         × (book.new ≡ bytes_after tenant (withdrawal book.old tenant name) book.old) }
 {
-    records_moved(changing::house::withdraw(book, tenant, name))
+    changing::house::withdraw(book, tenant, name).into()
 }
 
 #[unsafe(no_mangle)]
 pub extern "C" fn lambukir_ask_edition(book: &[u8], tenant: u32, name: u64) -> EditionAsked
     ensures { result ≡ edition_asked (edition_in book.now tenant name) }
 {
-    match asking::ask_edition(book, tenant, name) {
-        Asked::Edition(edition) => EditionAsked { edition, number: 0 },
-        Asked::Refused(number) => EditionAsked { edition: 0, number },
-    }
+    asking::ask_edition(book, tenant, name).into()
 }
 
 #[unsafe(no_mangle)]
 pub extern "C" fn lambukir_ask_producer(book: &[u8], tenant: u32, producer: u32) -> HeldAsked
     ensures { result ≡ held_asked (holding_in book.now tenant producer) }
 {
-    match asking::ask_producer(book, tenant, producer) {
-        Holding::Any(any) => HeldAsked {
-            held: if any { 1 } else { 0 },
-            number: 0,
-        },
-        Holding::Refused(number) => HeldAsked { held: 0, number },
-    }
+    asking::ask_producer(book, tenant, producer).into()
 }
 
 #[unsafe(no_mangle)]
@@ -177,7 +211,12 @@ pub extern "C" fn lambukir_issue(
     ensures { (result ≡ text_written (written_of (issued_from book.now register.now tenant name expiry level permit.now (length out.old))))
         × (out.new ≡ lent_after (issued_from book.now register.now tenant name expiry level permit.now (length out.old)) out.old) }
 {
-    text_written(asking::issue(book, register, tenant, name, expiry, level, permit, out))
+    let order = Order {
+        name,
+        expiry,
+        level,
+    };
+    asking::issue(book, register, tenant, order, permit, out).into()
 }
 
 #[unsafe(no_mangle)]
@@ -190,5 +229,5 @@ pub extern "C" fn lambukir_check(
 ) -> LineRead
     ensures { result ≡ line_read (checked_by book.now tenant hw today line.now) }
 {
-    line_read(asking::check(book, tenant, hw, today, line))
+    asking::check(book, tenant, hw, today, line).into()
 }

@@ -8,9 +8,10 @@ ghost use Rattle.cell_opening.specs.Answers.{file_answer, file_lent};
 ghost use Rattle.lambukir.specs.Permits.{text_written};
 ghost use Rattle.lambukir.specs.Cells.{part_enciphered, cell_file_opened};
 
-use super::permits::{TextWritten, text_written};
-use cell_file::PartWritten;
-use cell_opening::CellFile;
+use super::permits::TextWritten;
+use cell_file::Part;
+use cell_opening::OpenedFile;
+use forms::refusals::Refusal;
 
 // lambukir_part_written of the header.
 #[repr(C)]
@@ -31,39 +32,43 @@ pub struct FileOpened {
     pub number: u32,
 }
 
-fn part_enciphered(answer: PartWritten) -> PartEnciphered
-    ensures { result ≡ part_enciphered answer }
-{
-    match answer {
-        PartWritten::Done(p) => PartEnciphered {
-            length: p.length as u64,
-            carried: p.carried,
-            count: p.count,
-            number: 0,
-        },
-        PartWritten::Refused(number) => PartEnciphered {
-            length: 0,
-            carried: 0,
-            count: 0,
-            number,
-        },
+impl From<Result<Part, Refusal>> for PartEnciphered {
+    ghost from_gives = { λ answer enciphered. enciphered ≡ part_enciphered answer };
+
+    fn from(answer: Result<Part, Refusal>) -> PartEnciphered {
+        match answer {
+            Ok(part) => PartEnciphered {
+                length: part.length as u64,
+                carried: part.carried,
+                count: part.count,
+                number: 0,
+            },
+            Err(refusal) => PartEnciphered {
+                length: 0,
+                carried: 0,
+                count: 0,
+                number: refusal.number(),
+            },
+        }
     }
 }
 
-fn cell_file_opened(answer: CellFile) -> FileOpened
-    ensures { result ≡ cell_file_opened answer }
-{
-    match answer {
-        CellFile::Opened(f) => FileOpened {
-            length: f.length as u64,
-            key: f.key,
-            number: 0,
-        },
-        CellFile::Refused(number) => FileOpened {
-            length: 0,
-            key: 0,
-            number,
-        },
+impl From<Result<OpenedFile, Refusal>> for FileOpened {
+    ghost from_gives = { λ answer opened. opened ≡ cell_file_opened answer };
+
+    fn from(answer: Result<OpenedFile, Refusal>) -> FileOpened {
+        match answer {
+            Ok(file) => FileOpened {
+                length: file.length as u64,
+                key: file.key,
+                number: 0,
+            },
+            Err(refusal) => FileOpened {
+                length: 0,
+                key: 0,
+                number: refusal.number(),
+            },
+        }
     }
 }
 
@@ -72,7 +77,7 @@ pub extern "C" fn lambukir_encipher_file(key: u64, file: &[u8], out: &mut [u8]) 
     ensures { (result ≡ text_written (written_of (file_written key file.now (length out.old))))
         × (out.new ≡ lent_after (file_written key file.now (length out.old)) out.old) }
 {
-    text_written(cell_file::encipher_file(key, file, out))
+    cell_file::encipher_file(key, file, out).into()
 }
 
 #[unsafe(no_mangle)]
@@ -86,7 +91,7 @@ pub extern "C" fn lambukir_encipher_part(
     ensures { (result ≡ part_enciphered (part_answer (part_written key carried count part.now (length out.old))))
         × (out.new ≡ part_lent (part_written key carried count part.now (length out.old)) out.old) }
 {
-    part_enciphered(cell_file::encipher_part(key, carried, count, part, out))
+    cell_file::encipher_part(key, carried, count, part, out).into()
 }
 
 #[unsafe(no_mangle)]
@@ -99,7 +104,7 @@ pub extern "C" fn lambukir_encipher_end(
     ensures { (result ≡ text_written (written_of (end_written key carried count (length out.old))))
         × (out.new ≡ lent_after (end_written key carried count (length out.old)) out.old) }
 {
-    text_written(cell_file::encipher_end(key, carried, count, out))
+    cell_file::encipher_end(key, carried, count, out).into()
 }
 
 #[unsafe(no_mangle)]
@@ -113,5 +118,5 @@ pub extern "C" fn lambukir_open_cell_file(
     ensures { (result ≡ cell_file_opened (file_answer (opened_file file.now key1 key2 crc (length out.old))))
         × (out.new ≡ file_lent (opened_file file.now key1 key2 crc (length out.old)) out.old) }
 {
-    cell_file_opened(cell_opening::open_cell_file(file, key1, key2, crc, out))
+    cell_opening::open_cell_file(file, key1, key2, crc, out).into()
 }

@@ -1,13 +1,13 @@
 // Permit files for C.
 ghost use Rattle.std.specs.Prelude.{◌≡◌, length};
-ghost use Rattle.permit_file.specs.File.{cursor, open_of, step_of};
-ghost use Rattle.permit_file.specs.declared.Step.TheVariants.{Record};
+ghost use Rattle.permit_file.specs.File.{open_of, step_of};
 ghost use Rattle.mending.specs.Mending.{mending};
 ghost use Rattle.mending.specs.Answers.{answer_of, file_lent, list_lent};
 ghost use Rattle.lambukir.specs.Files.{file_opened, no_record, file_line_read, file_mended};
 
-use mending::Answer;
-use permit_file::{Cursor, Opened, Step};
+use forms::refusals::Refusal;
+use mending::Lengths;
+use permit_file::{Cursor, Step};
 
 // lambukir_place of the header.
 #[repr(C)]
@@ -59,48 +59,62 @@ fn no_record(next: usize, number: u32, end: u32) -> FileLineRead
     }
 }
 
-fn with_record(r: cell_permit::Record, next: usize) -> FileLineRead
-    ensures { result ≡ file_line_read (Record r (cursor next)) }
-{
-    let notice = r.notice;
-    FileLineRead {
-        name: r.name,
-        key1: r.key1,
-        key2: r.key2,
-        next: next as u64,
-        expiry: r.expiry,
-        level: r.level,
-        edition: r.edition,
-        server: r.server,
-        number: dates::notice_number(notice),
-        end: 0,
+impl From<Step> for FileLineRead {
+    ghost from_gives = { λ step read. read ≡ file_line_read step };
+
+    fn from(step: Step) -> FileLineRead {
+        match step {
+            Step::Record(r, c) => FileLineRead {
+                name: r.name,
+                key1: r.key1,
+                key2: r.key2,
+                next: c.place as u64,
+                expiry: r.expiry,
+                level: r.level,
+                edition: r.edition,
+                server: r.server,
+                number: r.notice as u32,
+                end: 0,
+            },
+            Step::Refused(refusal, c) => no_record(c.place, refusal.number(), 0),
+            Step::End(c) => no_record(c.place, 0, 1),
+        }
     }
 }
 
-fn file_line_read(step: Step) -> FileLineRead
-    ensures { result ≡ file_line_read step }
-{
-    match step {
-        Step::Record(r, c) => with_record(r, c.place),
-        Step::Refused(number, c) => no_record(c.place, number, 0),
-        Step::End(c) => no_record(c.place, 0, 1),
+impl From<Result<Cursor, Refusal>> for FileOpened {
+    ghost from_gives = { λ answer opened. opened ≡ file_opened answer };
+
+    fn from(answer: Result<Cursor, Refusal>) -> FileOpened {
+        match answer {
+            Ok(c) => FileOpened {
+                place: c.place as u64,
+                number: 0,
+            },
+            Err(refusal) => FileOpened {
+                place: 0,
+                number: refusal.number(),
+            },
+        }
     }
 }
 
-fn file_mended(answer: Answer) -> FileMended
-    ensures { result ≡ file_mended answer }
-{
-    match answer {
-        Answer::Done(size) => FileMended {
-            length: size.file as u64,
-            list_length: size.list as u64,
-            number: 0,
-        },
-        Answer::Refused(number) => FileMended {
-            length: 0,
-            list_length: 0,
-            number,
-        },
+impl From<Result<Lengths, Refusal>> for FileMended {
+    ghost from_gives = { λ answer mended. mended ≡ file_mended answer };
+
+    fn from(answer: Result<Lengths, Refusal>) -> FileMended {
+        match answer {
+            Ok(size) => FileMended {
+                length: size.file as u64,
+                list_length: size.list as u64,
+                number: 0,
+            },
+            Err(refusal) => FileMended {
+                length: 0,
+                list_length: 0,
+                number: refusal.number(),
+            },
+        }
     }
 }
 
@@ -108,13 +122,7 @@ fn file_mended(answer: Answer) -> FileMended
 pub extern "C" fn lambukir_open_file(file: &[u8]) -> FileOpened
     ensures { result ≡ file_opened (open_of file.now) }
 {
-    match permit_file::open(file) {
-        Opened::At(c) => FileOpened {
-            place: c.place as u64,
-            number: 0,
-        },
-        Opened::Refused(number) => FileOpened { place: 0, number },
-    }
+    permit_file::open(file).into()
 }
 
 #[unsafe(no_mangle)]
@@ -128,7 +136,7 @@ pub extern "C" fn lambukir_read_file_line(
     ensures { result ≡ file_line_read (step_of hw today days file.now place) }
 {
     let cursor = Cursor { place };
-    file_line_read(cursor.step(file, hw, today, days))
+    cursor.step(file, hw, today, days).into()
 }
 
 #[unsafe(no_mangle)]
@@ -137,5 +145,5 @@ pub extern "C" fn lambukir_mend(file: &[u8], out: &mut [u8], list: &mut [u8]) ->
         × ((out.new ≡ file_lent (mending file.now (length out.old) (length list.old)) out.old)
         × (list.new ≡ list_lent (mending file.now (length out.old) (length list.old)) list.old)) }
 {
-    file_mended(mending::mend(file, out, list))
+    mending::mend(file, out, list).into()
 }

@@ -3,12 +3,26 @@ ghost use Rattle.std.specs.Prelude.{◌≡◌};
 ghost use Rattle.products.specs.Answers.{standing_of};
 ghost use Rattle.lambukir.specs.Lists.{product_standing};
 
+use forms::refusals::Refusal;
+use products::standings::Standing;
+
 // lambukir_standing of the header.
 #[repr(C)]
 #[derive(Clone, Copy)]
 pub struct ProductStanding {
     pub standing: u32,
     pub number: u32,
+}
+
+impl From<Result<Standing, Refusal>> for ProductStanding {
+    ghost from_gives = { λ answer told. told ≡ product_standing answer };
+
+    fn from(answer: Result<Standing, Refusal>) -> ProductStanding {
+        ProductStanding {
+            standing: products::standing_code(answer),
+            number: products::standing_number(answer),
+        }
+    }
 }
 
 #[unsafe(no_mangle)]
@@ -20,9 +34,5 @@ pub extern "C" fn lambukir_product_standing(
 ) -> ProductStanding
     ensures { result ≡ product_standing (standing_of list.now name edition update) }
 {
-    let answer = products::standing(list, name, edition, update);
-    ProductStanding {
-        standing: products::standing_code(answer),
-        number: products::standing_number(answer),
-    }
+    products::standing(list, name, edition, update).into()
 }

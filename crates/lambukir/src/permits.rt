@@ -1,14 +1,16 @@
 // Permits for C.
 ghost use Rattle.std.specs.Prelude.{◌≡◌, length};
-ghost use Rattle.forms.specs.Output.{written_of, lent_after, written_number};
+ghost use Rattle.forms.specs.Output.{written_of, lent_after};
+ghost use Rattle.forms.specs.Refusals.{refusal_number};
 ghost use Rattle.user_permit.specs.UserPermit.{made, read_permit};
 ghost use Rattle.cell_permit.specs.CellPermit.{written_line};
 ghost use Rattle.cell_permit.specs.Line.{read_line};
 ghost use Rattle.lambukir.specs.Permits.{cell_from, user_permit_read, line_read, text_written, comment_part};
 
-use cell_permit::{Cell, CommentPlace, Line};
-use forms::Written;
-use user_permit::UserPermit;
+use super::number;
+use cell_permit::{Cell, Record};
+use forms::refusals::Refusal;
+use user_permit::Ship;
 
 // lambukir_user_permit of the header.
 #[repr(C)]
@@ -49,94 +51,104 @@ pub struct Part {
     pub length: u64,
 }
 
-fn user_permit_read(answer: UserPermit) -> UserPermitRead
-    ensures { result ≡ user_permit_read answer }
-{
-    match answer {
-        UserPermit::Ship { hw_id, m_id } => UserPermitRead {
-            hw: hw_id,
-            m: m_id,
-            number: 0,
-        },
-        UserPermit::Refused(number) => UserPermitRead {
-            hw: 0,
-            m: 0,
-            number,
-        },
+impl From<Result<Ship, Refusal>> for UserPermitRead {
+    ghost from_gives = { λ answer read. read ≡ user_permit_read answer };
+
+    fn from(answer: Result<Ship, Refusal>) -> UserPermitRead {
+        match answer {
+            Ok(ship) => UserPermitRead {
+                hw: ship.hw_id,
+                m: ship.m_id,
+                number: 0,
+            },
+            Err(refusal) => UserPermitRead {
+                hw: 0,
+                m: 0,
+                number: refusal.number(),
+            },
+        }
     }
 }
 
-pub(crate) fn line_read(answer: Line) -> LineRead
-    ensures { result ≡ line_read answer }
-{
-    match answer {
-        Line::Record(r) => LineRead {
-            name: r.name,
-            key1: r.key1,
-            key2: r.key2,
-            expiry: r.expiry,
-            level: r.level,
-            edition: r.edition,
-            server: r.server,
-            number: cell_permit::line_number(answer),
-        },
-        Line::Refused(number) => LineRead {
-            name: 0,
-            key1: 0,
-            key2: 0,
-            expiry: 0,
-            level: 0,
-            edition: 0,
-            server: 0,
-            number,
-        },
+impl From<Result<Record, Refusal>> for LineRead {
+    ghost from_gives = { λ answer read. read ≡ line_read answer };
+
+    fn from(answer: Result<Record, Refusal>) -> LineRead {
+        match answer {
+            Ok(r) => LineRead {
+                name: r.name,
+                key1: r.key1,
+                key2: r.key2,
+                expiry: r.expiry,
+                level: r.level,
+                edition: r.edition,
+                server: r.server,
+                number: r.notice as u32,
+            },
+            Err(refusal) => LineRead {
+                name: 0,
+                key1: 0,
+                key2: 0,
+                expiry: 0,
+                level: 0,
+                edition: 0,
+                server: 0,
+                number: refusal.number(),
+            },
+        }
     }
 }
 
-pub(crate) fn text_written(answer: Written) -> TextWritten
-    ensures { result ≡ text_written answer }
-{
-    match answer {
-        Written::Length(n) => TextWritten {
-            length: n as u64,
-            number: 0,
-        },
-        Written::Refused(number) => TextWritten { length: 0, number },
+impl From<Result<usize, Refusal>> for TextWritten {
+    ghost from_gives = { λ answer written. written ≡ text_written answer };
+
+    fn from(answer: Result<usize, Refusal>) -> TextWritten {
+        match answer {
+            Ok(length) => TextWritten {
+                length: length as u64,
+                number: 0,
+            },
+            Err(refusal) => TextWritten {
+                length: 0,
+                number: refusal.number(),
+            },
+        }
     }
 }
 
 #[unsafe(no_mangle)]
 pub extern "C" fn lambukir_make_user_permit(register: &[u8], hw: u64, m: u32, out: &mut [u8]) -> u32
-    ensures { (result ≡ written_number (written_of (made register.now hw m (length out.old))))
+    ensures { (result ≡ refusal_number (written_of (made register.now hw m (length out.old))))
         × (out.new ≡ lent_after (made register.now hw m (length out.old)) out.old) }
 {
-    text_written(user_permit::make_user_permit(register, hw, m, out)).number
+    number(user_permit::make_user_permit(register, hw, m, out))
 }
 
 #[unsafe(no_mangle)]
 pub extern "C" fn lambukir_read_user_permit(register: &[u8], permit: &[u8]) -> UserPermitRead
     ensures { result ≡ user_permit_read (read_permit register.now permit.now) }
 {
-    user_permit_read(user_permit::read_user_permit(register, permit))
+    user_permit::read_user_permit(register, permit).into()
 }
 
 #[unsafe(no_mangle)]
 pub extern "C" fn lambukir_read_line(hw: u64, today: u32, days: u32, line: &[u8]) -> LineRead
     ensures { result ≡ line_read (read_line hw today days line.now) }
 {
-    line_read(cell_permit::read_line(hw, today, days, line))
+    cell_permit::read_line(hw, today, days, line).into()
 }
 
+#[tactic(auto, using(cell_permit::proofs::Comments::place_within))]
 #[unsafe(no_mangle)]
 pub extern "C" fn lambukir_comment(line: &[u8]) -> Part
     ensures { result ≡ comment_part line.now }
 {
     match cell_permit::comment_place(line) {
-        CommentPlace::At(start) => Part {
+        Some(start) => Part {
             start: start as u64,
             length: (line.len() - start) as u64,
         },
-        CommentPlace::None => Part {
+        None => Part {
             start: 0,
             length: 0,
         },
@@ -167,5 +179,5 @@ pub extern "C" fn lambukir_write_line(
         edition,
         server,
     };
-    text_written(writing_line::write_line(hw, cell, out))
+    writing_line::write_line(hw, cell, out).into()
 }

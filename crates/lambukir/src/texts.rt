@@ -6,6 +6,11 @@ ghost use Rattle.lambukir.specs.Texts.{version, one_if, text_for};
 
 use spelling::{from_text, to_text};
 
+// What C gets of a text that is none, since it has no Option: LAMBUKIR_NO_NAME and its like of the header.
+const NONE_64: u64 = 0xffff_ffff_ffff_ffff;
+
+const NONE_32: u32 = 0xffff_ffff;
+
 // lambukir_text of the header.
 #[repr(C)]
 #[derive(Clone, Copy)]
@@ -24,7 +29,7 @@ pub extern "C" fn lambukir_version() -> u32
 pub extern "C" fn lambukir_is_success(number: u32) -> u32
     ensures { result ≡ one_if (is_success number) }
 {
-    if meanings::is_success(number) { 1 } else { 0 }
+    u32::from(meanings::is_success(number))
 }
 
 #[unsafe(no_mangle)]
@@ -40,35 +45,35 @@ pub extern "C" fn lambukir_meaning(number: u32) -> Text
 pub extern "C" fn lambukir_name_from_text(text: &[u8]) -> u64
     ensures { result ≡ name_from text.now }
 {
-    from_text::name_from(text)
+    from_text::name_read(text).unwrap_or(NONE_64)
 }
 
 #[unsafe(no_mangle)]
 pub extern "C" fn lambukir_hw_id_from_text(text: &[u8]) -> u64
     ensures { result ≡ hw_id_from text.now }
 {
-    from_text::hw_id_from(text)
+    from_text::hw_id_read(text).unwrap_or(NONE_64)
 }
 
 #[unsafe(no_mangle)]
 pub extern "C" fn lambukir_code_from_text(text: &[u8]) -> u32
     ensures { result ≡ code_from text.now }
 {
-    from_text::code_from(text)
+    from_text::code_read(text).unwrap_or(NONE_32)
 }
 
 #[unsafe(no_mangle)]
 pub extern "C" fn lambukir_key_from_hex(text: &[u8]) -> u64
     ensures { result ≡ key_from text.now }
 {
-    from_text::key_from(text)
+    from_text::key_read(text).unwrap_or(NONE_64)
 }
 
 #[unsafe(no_mangle)]
 pub extern "C" fn lambukir_date_from_text(text: &[u8]) -> u32
     ensures { result ≡ date_from text.now }
 {
-    from_text::date_from(text)
+    from_text::date_read(text).unwrap_or(NONE_32)
 }
 
 #[unsafe(no_mangle)]

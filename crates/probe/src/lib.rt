@@ -7,11 +7,12 @@ ghost use Rattle.octets.specs.Places.{number_at};
 ghost use Rattle.octets.specs.Padding.{pad_of, unpad_of};
 ghost use Rattle.text.specs.Characters.{is_digit, is_upper_hex, is_name_character, raised, hex_value, hex_character, digit_value, digit_character};
 ghost use Rattle.dates.specs.Calendar.{is_date, day_number};
-ghost use Rattle.dates.specs.Notice.{days_left, left_of, notice_of, notice_number};
+ghost use Rattle.dates.specs.Notice.{days_left, notice_of, notice_number};
 ghost use Rattle.blowfish.specs.Cipher.{encipher_of, decipher_of};
 ghost use Rattle.blowfish.specs.Schedule.{key_number, scheduled};
 ghost use Rattle.probe.specs.Forms.{days_form, unpadded_form};
 
+// C takes a whole number and an Option apart into fields.
 #[repr(C)]
 #[derive(Clone, Copy)]
 pub struct ProbeDaysLeft {
@@ -63,11 +64,12 @@ pub extern "C" fn probe_day_number(date: u32) -> u32
 
 #[unsafe(no_mangle)]
 pub extern "C" fn probe_days_left(today: u32, expiry: u32) -> ProbeDaysLeft
-    ensures { result ≡ days_form (left_of today expiry) }
+    ensures { result ≡ days_form (days_left today expiry) }
 {
-    match dates::days_left(today, expiry) {
-        dates::DaysLeft::Passed(n) => ProbeDaysLeft { passed: 1, days: n },
-        dates::DaysLeft::Left(n) => ProbeDaysLeft { passed: 0, days: n },
+    let left = dates::days_left(today, expiry);
+    ProbeDaysLeft {
+        passed: u32::from(left < 0),
+        days: left.unsigned_abs(),
     }
 }
 
@@ -204,12 +206,12 @@ pub extern "C" fn probe_pad40(x: u64) -> u64
     octets::padding::pad40(x)
 }
 
-fn unpadded(u: octets::numbers::Reading) -> ProbeUnpadded
-    ensures { result ≡ unpadded_form u }
+fn unpadded(read: Option<u64>) -> ProbeUnpadded
+    ensures { result ≡ unpadded_form read }
 {
-    match u {
-        octets::numbers::Reading::Number(x) => ProbeUnpadded { value: x, right: 1 },
-        octets::numbers::Reading::Wrong => ProbeUnpadded { value: 0, right: 0 },
+    match read {
+        Some(value) => ProbeUnpadded { value, right: 1 },
+        None => ProbeUnpadded { value: 0, right: 0 },
     }
 }
 

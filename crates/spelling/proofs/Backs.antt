@@ -22,7 +22,7 @@ use Rattle.dates.proofs.Parts.{date_fits}
 use Rattle.forms.specs.Identifiers.{is_text, is_hw_id, is_upper_hw_id, raised_hw_id, is_cell_key}
 use Rattle.forms.proofs.Fits.{text_fits, text_all}
 use Rattle.forms.proofs.HwIds.{upper_stays, upper_given, raised_upper}
-use Rattle.spelling.specs.Spelling.{is_word, none64, none32, identifier_from, identifier_to, hw_id_from, hw_id_to, key_from, key_to, is_date_word, date_from, date_to}
+use Rattle.spelling.specs.Spelling.{is_word, identifier_read, key_read, date_read, none64, none32, identifier_from, identifier_to, hw_id_from, hw_id_to, key_from, key_to, is_date_word, date_from, date_to}
 use Rattle.spelling.specs.ThereAndBack.{ThereAndBack, NamesBack, HwIdsBack, HwIdsEitherCase, CodesBack, KeysBack, DatesBack}
 use Rattle.spelling.proofs.Words.{word_length}
 
@@ -48,7 +48,7 @@ module _ (none : ℕ) (test : ℕ → Bool) (n : ℕ) (bytes : (t : List ℕ) �
     bytes_back = rw same at (digits_value t below)
 
     value : identifier_from none test n t ≡ bytes_number t
-    unfolding identifier_from
+    unfolding identifier_read
     value = rw word
 
     taken : is_text test n (bytes_number t) ≡ true
@@ -62,7 +62,7 @@ module _ (none : ℕ) (test : ℕ → Bool) (n : ℕ) (bytes : (t : List ℕ) �
     back = rw (value, taken) bytes_back
 
   other : (t : List ℕ) → is_word test n t ≡ false → is_text test n (identifier_from none test n t) ≡ false
-  unfolding identifier_from
+  unfolding identifier_read
   other t miss = rw miss is_none
 
   again : (x : ℕ) → is_text test n x ≡ true → identifier_from none test n (identifier_to test n x) ≡ x
@@ -113,7 +113,7 @@ module _ (t : List ℕ) (word : is_word is_hex 5 t ≡ true) where
   hw_id_back = ap (identifier_to is_upper_hex 5) (upper_stays (hw_id_from t) hw_id_upper) ∙ upper_back.1 (raised_text t) (word_raised t ∙ word)
 
 hw_id_other : (t : List ℕ) → is_word is_hex 5 t ≡ false → is_hw_id (hw_id_from t) ≡ false
-unfolding identifier_from is_text digits all_of is_hex raised is_upper_hex is_digit
+unfolding identifier_read is_text digits all_of is_hex raised is_upper_hex is_digit
 hw_id_other t miss = rw (word_raised t ∙ miss)
 
 hw_id_again : (x : ℕ) → is_hw_id x ≡ true → hw_id_from (hw_id_to x) ≡ raised_hw_id x
@@ -137,7 +137,7 @@ hw_ids_either_case = ((λ t u same. ap (identifier_from none64 is_upper_hex 5) s
 -- ten characters of hex in capitals
 module _ (t : List ℕ) (word : is_word is_upper_hex 10 t ≡ true) where
   key_value : key_from t ≡ hex_number t
-  unfolding key_from
+  unfolding key_read
   key_value = rw word
 
   key_size : length t ≡ 10
@@ -156,7 +156,7 @@ module _ (t : List ℕ) (word : is_word is_upper_hex 10 t ≡ true) where
   key_back = rw (key_value, key_small) (rw key_size at (alphabets.text_of_number hex t key_written))
 
 key_other : (t : List ℕ) → is_word is_upper_hex 10 t ≡ false → is_cell_key (key_from t) ≡ false
-unfolding key_from
+unfolding key_read
 key_other t miss = rw miss
 
 key_again : (x : ℕ) → is_cell_key x ≡ true → key_from (key_to x) ≡ x
@@ -173,7 +173,7 @@ keys_back =
 -- eight digits that are a date
 module _ (t : List ℕ) (word : is_date_word t ≡ true) where
   date_value : date_from t ≡ decimal_number t
-  unfolding date_from
+  unfolding date_read
   date_value = rw word
 
   date_digits : is_word is_digit 8 t ≡ true
@@ -191,7 +191,7 @@ module _ (t : List ℕ) (word : is_date_word t ≡ true) where
       (rw (word_length is_digit 8 t date_digits) at (alphabets.text_of_number decimal t (word_all is_digit 8 t date_digits)))
 
 date_other : (t : List ℕ) → is_date_word t ≡ false → is_date (date_from t) ≡ false
-unfolding date_from is_date year within
+unfolding date_read is_date year within
 date_other t miss = rw miss
 
 date_again : (x : ℕ) → is_date x ≡ true → date_from (date_to x) ≡ x

@@ -2,7 +2,7 @@
 ghost use Rattle.std.specs.Prelude.{◌≡◌};
 ghost use Rattle.spelling.specs.Spelling.{name_to, hw_id_to, code_to, key_to, date_to, spelled};
 
-// What C gets of nothing.
+// What C gets of nothing: the empty text of the definition, so an Option for each form would save no line.
 const NOTHING: [u8; 64] = [0; 64];
 
 // A text at the start of zeros.
@@ -15,6 +15,7 @@ pub fn spelled(text: &[u8]) -> [u8; 64]
 }
 
 // Cell name.
+#[tactic(auto, using(crate::proofs::Texts::identifier_none, crate::proofs::Texts::identifier_text))]
 pub fn name_to(name: u64) -> [u8; 64]
     ensures { result ≡ spelled (name_to name) }
 {
@@ -25,6 +26,7 @@ pub fn name_to(name: u64) -> [u8; 64]
 }
 
 // HW_ID: its letters are raised.
+#[tactic(auto, using(crate::proofs::Texts::identifier_none, crate::proofs::Texts::identifier_text))]
 pub fn hw_id_to(hw: u64) -> [u8; 64]
     ensures { result ≡ spelled (hw_id_to hw) }
 {
@@ -36,6 +38,7 @@ pub fn hw_id_to(hw: u64) -> [u8; 64]
 }
 
 // M_ID, Data Server ID or producer.
+#[tactic(auto, using(crate::proofs::Texts::identifier_none, crate::proofs::Texts::identifier_text, forms::proofs::Fits::text_fits))]
 pub fn code_to(code: u32) -> [u8; 64]
     ensures { result ≡ spelled (code_to code) }
 {
@@ -46,6 +49,7 @@ pub fn code_to(code: u32) -> [u8; 64]
 }
 
 // Cell key, in hex.
+#[tactic(auto, using(crate::proofs::Texts::key_none, crate::proofs::Texts::key_text))]
 pub fn key_to(key: u64) -> [u8; 64]
     ensures { result ≡ spelled (key_to key) }
 {
@@ -57,6 +61,7 @@ pub fn key_to(key: u64) -> [u8; 64]
 }
 
 // Date, YYYYMMDD.
+#[tactic(auto, using(crate::proofs::Texts::date_none, crate::proofs::Texts::date_text))]
 pub fn date_to(date: u32) -> [u8; 64]
     ensures { result ≡ spelled (date_to date) }
 {

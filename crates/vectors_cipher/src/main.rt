@@ -1,82 +1,44 @@
 // Runs the published vectors of Blowfish (its author's 34 pairs, and his series of key lengths) and of CRC-32; `stdout` has what they must give.
 #![tactic(auto)]
 
-ghost use Rattle.std.specs.Prelude.{◌≤◌};
-
 use std::io;
 
-const KEYS: [u64; 34] = [
-    0x0000000000000000,
-    0xffffffffffffffff,
-    0x3000000000000000,
-    0x1111111111111111,
-    0x0123456789abcdef,
-    0x1111111111111111,
-    0x0000000000000000,
-    0xfedcba9876543210,
-    0x7ca110454a1a6e57,
-    0x0131d9619dc1376e,
-    0x07a1133e4a0b2686,
-    0x3849674c2602319e,
-    0x04b915ba43feb5b6,
-    0x0113b970fd34f2ce,
-    0x0170f175468fb5e6,
-    0x43297fad38e373fe,
-    0x07a7137045da2a16,
-    0x04689104c2fd3b2f,
-    0x37d06bb516cb7546,
-    0x1f08260d1ac2465e,
-    0x584023641aba6176,
-    0x025816164629b007,
-    0x49793ebc79b3258f,
-    0x4fb05e1515ab73a7,
-    0x49e95d6d4ca229bf,
-    0x018310dc409b26d6,
-    0x1c587f1c13924fef,
-    0x0101010101010101,
-    0x1f1f1f1f0e0e0e0e,
-    0xe0fee0fef1fef1fe,
-    0x0000000000000000,
-    0xffffffffffffffff,
-    0x0123456789abcdef,
-    0xfedcba9876543210,
-];
-
-const CLEAR: [u64; 34] = [
-    0x0000000000000000,
-    0xffffffffffffffff,
-    0x1000000000000001,
-    0x1111111111111111,
-    0x1111111111111111,
-    0x0123456789abcdef,
-    0x0000000000000000,
-    0x0123456789abcdef,
-    0x01a1d6d039776742,
-    0x5cd54ca83def57da,
-    0x0248d43806f67172,
-    0x51454b582ddf440a,
-    0x42fd443059577fa2,
-    0x059b5e0851cf143a,
-    0x0756d8e0774761d2,
-    0x762514b829bf486a,
-    0x3bdd119049372802,
-    0x26955f6835af609a,
-    0x164d5e404f275232,
-    0x6b056e18759f5cca,
-    0x004bd6ef09176062,
-    0x480d39006ee762f2,
-    0x437540c8698f3cfa,
-    0x072d43a077075292,
-    0x02fe55778117f12a,
-    0x1d9d5c5018f728c2,
-    0x305532286d6f295a,
-    0x0123456789abcdef,
-    0x0123456789abcdef,
-    0x0123456789abcdef,
-    0xffffffffffffffff,
-    0x0000000000000000,
-    0x0000000000000000,
-    0xffffffffffffffff,
+// The keys and their clear blocks.
+const PAIRS: [(u64, u64); 34] = [
+    (0x0000000000000000, 0x0000000000000000),
+    (0xffffffffffffffff, 0xffffffffffffffff),
+    (0x3000000000000000, 0x1000000000000001),
+    (0x1111111111111111, 0x1111111111111111),
+    (0x0123456789abcdef, 0x1111111111111111),
+    (0x1111111111111111, 0x0123456789abcdef),
+    (0x0000000000000000, 0x0000000000000000),
+    (0xfedcba9876543210, 0x0123456789abcdef),
+    (0x7ca110454a1a6e57, 0x01a1d6d039776742),
+    (0x0131d9619dc1376e, 0x5cd54ca83def57da),
+    (0x07a1133e4a0b2686, 0x0248d43806f67172),
+    (0x3849674c2602319e, 0x51454b582ddf440a),
+    (0x04b915ba43feb5b6, 0x42fd443059577fa2),
+    (0x0113b970fd34f2ce, 0x059b5e0851cf143a),
+    (0x0170f175468fb5e6, 0x0756d8e0774761d2),
+    (0x43297fad38e373fe, 0x762514b829bf486a),
+    (0x07a7137045da2a16, 0x3bdd119049372802),
+    (0x04689104c2fd3b2f, 0x26955f6835af609a),
+    (0x37d06bb516cb7546, 0x164d5e404f275232),
+    (0x1f08260d1ac2465e, 0x6b056e18759f5cca),
+    (0x584023641aba6176, 0x004bd6ef09176062),
+    (0x025816164629b007, 0x480d39006ee762f2),
+    (0x49793ebc79b3258f, 0x437540c8698f3cfa),
+    (0x4fb05e1515ab73a7, 0x072d43a077075292),
+    (0x49e95d6d4ca229bf, 0x02fe55778117f12a),
+    (0x018310dc409b26d6, 0x1d9d5c5018f728c2),
+    (0x1c587f1c13924fef, 0x305532286d6f295a),
+    (0x0101010101010101, 0x0123456789abcdef),
+    (0x1f1f1f1f0e0e0e0e, 0x0123456789abcdef),
+    (0xe0fee0fef1fef1fe, 0x0123456789abcdef),
+    (0x0000000000000000, 0xffffffffffffffff),
+    (0xffffffffffffffff, 0x0000000000000000),
+    (0x0123456789abcdef, 0x0000000000000000),
+    (0xfedcba9876543210, 0xffffffffffffffff),
 ];
 
 // The key whose first bytes are the keys of the series, and the block that they encipher.
@@ -87,42 +49,17 @@ const SERIES: [u8; 24] = [
 
 const SERIES_CLEAR: u64 = 0xfedcba9876543210;
 
-// Writes a number in sixteen hex characters, or in its last eight.
-fn show(to: &impl Print, x: u64, skip: usize) -> io::Result<()>
-    requires { skip ≤ 16 }
-{
-    let mut line = [b'0'; 16];
-    let mut rest = x;
-    for character in line.iter_mut().rev() {
-        *character = text::characters::hex_character((rest % 16) as u8);
-        rest /= 16;
-    }
-    to.write_all(&line[skip..])
-}
-
-fn blank(to: &impl Print) -> io::Result<()> {
-    to.print(' ')
-}
-
-fn end_line(to: &impl Print) -> io::Result<()> {
-    to.print('\n')
-}
-
 // Key, clear block and enciphered block; the clear one is what deciphering gives back.
 fn pair(to: &impl Print, key: u64, clear: u64) -> io::Result<()> {
     let mut words = [0u32; 1042];
     blowfish::key_schedule(&octets::numbers::bytes64(key), &mut words);
     let enciphered = blowfish::encipher(&words, clear);
-    show(to, key, 0)?;
-    blank(to)?;
-    show(to, blowfish::decipher(&words, enciphered), 0)?;
-    blank(to)?;
-    show(to, enciphered, 0)?;
-    end_line(to)
+    let back = blowfish::decipher(&words, enciphered);
+    println!(to; "{key:016X} {back:016X} {enciphered:016X}")
 }
 
 fn pairs(to: &impl Print) -> io::Result<()> {
-    for (key, clear) in KEYS.iter().zip(CLEAR.iter()) {
+    for (key, clear) in &PAIRS {
         pair(to, *key, *clear)?;
     }
     Ok(())
@@ -132,14 +69,12 @@ fn pairs(to: &impl Print) -> io::Result<()> {
 fn under(to: &impl Print, key: &[u8]) -> io::Result<()> {
     let mut words = [0u32; 1042];
     let number = blowfish::key_schedule(key, &mut words);
-    to.print(key.len())?;
-    blank(to)?;
-    if number == 0 {
-        show(to, blowfish::encipher(&words, SERIES_CLEAR), 0)?;
-    } else {
-        to.print(number)?;
+    let length = key.len();
+    if number != 0 {
+        return println!(to; "{length} {number}");
     }
-    end_line(to)
+    let enciphered = blowfish::encipher(&words, SERIES_CLEAR);
+    println!(to; "{length} {enciphered:016X}")
 }
 
 fn series(to: &impl Print) -> io::Result<()> {
@@ -151,8 +86,8 @@ fn series(to: &impl Print) -> io::Result<()> {
 }
 
 fn check(to: &impl Print, bytes: &[u8]) -> io::Result<()> {
-    show(to, u64::from(crc32::crc32(bytes)), 8)?;
-    end_line(to)
+    let crc = crc32::crc32(bytes);
+    println!(to; "{crc:08X}")
 }
 
 fn main(rt: HostRuntime) -> io::Result<()> {

@@ -1,8 +1,0 @@
--- `lambukir::texts::lambukir_key_to_hex` meets its contract.
--- Assumes nothing.
-use mathlib.Core.Path.{ap}
-use Rattle.lambukir.specs.Texts.{text_of}
-use Rattle.lambukir.proofs.texts.lambukir_key_to_hex.Goals as goal
-
-pub returns : goal.returns
-returns c = ap text_of c.key_to.ensures
