@@ -50,7 +50,7 @@ function end_file() {
     if (first_public && !brought) report(first_public, "the file", "does not bring in ◌≡◌ of " prelude)
 }
 
-# mode: "" for Rattle's text; antt's is that of a "clause", from its { to its }, and of a "use", to its ;
+# mode: "" for Rattle's text; antt's is that of a "clause" and of a ghost "member", from its { to its }, and of a "use", to its ;
 function read(rest,    size, token) {
     last_line = FNR
     spaced = 1
@@ -114,9 +114,10 @@ function take(token) {
         return
     }
     if (lead ~ / ghost$/) {
-        if (token != "use") report(FNR, "the file", "has a ghost of another kind than use")
-        mode = "use"
-        sizes = 0
+        mode = token == "use" ? "use" : "member"
+        sizes = level = 0
+        # a trait's member or a type's field that is ghost: NAME = { .. }; or NAME: { .. },
+        if (mode == "member" && token !~ /^[a-z_]+$/) report(FNR, "the file", "has a ghost member in a form that is not read")
     }
     if (token == "fn") {
         is_public = lead ~ / pub( const| unsafe| async| extern| ")*$| extern( ")?$/
@@ -159,9 +160,9 @@ function take_antt(token) {
         } else imported[++sizes] = token
         return
     }
-    token_at[++tokens] = token
+    if (mode == "clause") token_at[++tokens] = token
     level += (token == "{") - (token == "}")
-    if (level == 0) mode = ""
+    if (level == 0 && (mode == "clause" || token == "}")) mode = lead = ""
 }
 
 function end_head() {
@@ -280,9 +281,20 @@ function plain() {
 
 function path() {
     if (token_at[at++] !~ /^[A-Za-z0-9_]+$/) return 0
+    if (token_at[at] == "<") return inner()
     if (token_at[at] != "::") return 1
     at++
     return path()
+}
+
+# the types inside of Option<..> and Result<.., ..>, none of them a reference; () is one too
+function inner() {
+    do {
+        at++
+        if (token_at[at] == "(" && token_at[at + 1] == ")") at += 2
+        else if (!plain()) return 0
+    } while (token_at[at] == ",")
+    return token_at[at++] == ">"
 }
 
 # ---- its promises: the tokens a to b of a clause
