@@ -1,7 +1,8 @@
 // Pi's fraction as the words that Blowfish starts from: P, then S1 to S4. No reader has to trust the numbers: they are proved to equal what specs/Pi.antt works out.
 #![tactic(auto)]
 
-ghost use Rattle.std.specs.Prelude.{◌≡◌};
+ghost use Rattle.std.specs.Prelude.{◌≡◌, ◌+◌, ◌≤◌, length};
+ghost use Rattle.pi.specs.Overlaid.{Overlaid};
 ghost use Rattle.pi.specs.Pi.{start_words};
 
 const P: [u32; 18] = [
@@ -150,15 +151,26 @@ const S4: [u32; 256] = [
     0x90d4f869, 0xa65cdea0, 0x3f09252d, 0xc208e69f, 0xb74e6132, 0xce77e25b, 0x578fdfe3, 0x3ac372e6,
 ];
 
+// Puts a table's words into a key's, from a place on.
+fn place(words: &mut [u32; 1042], at: usize, table: &[u32])
+    requires { at + length table.now ≤ 1042 }
+    ensures { Overlaid words.old at table.now words.new }
+{
+    for i in 0..table.len() {
+        words[at + i] = table[i];
+    }
+}
+
 // Puts P, then S1 to S4, in place of a key's words.
 pub fn put_start(words: &mut [u32; 1042])
     ensures { words.new ≡ start_words }
 {
-    words[..18].copy_from_slice(&P);
-    words[18..274].copy_from_slice(&S1);
-    words[274..530].copy_from_slice(&S2);
-    words[530..786].copy_from_slice(&S3);
-    words[786..].copy_from_slice(&S4);
+    *words = [0u32; 1042];
+    place(words, 0, &P);
+    place(words, 18, &S1);
+    place(words, 274, &S2);
+    place(words, 530, &S3);
+    place(words, 786, &S4);
 }
 
 // P, then S1 to S4.
