@@ -93,8 +93,9 @@ fn four_in(x: Streams) -> u32
     crc32::feed(0, bytes.as_flattened())
 }
 
-// The state after all bytes of a text have come in that has sixteen or more.
+// The state after all bytes of a text have come in that has sixteen or more. Never taken into its caller: a short text would take its 4 KiB of stack.
 #[tactic(auto, using(crate::proofs::Sixteens::long_fed))]
+#[inline(never)]
 fn long_in(state: u32, s: &[u8]) -> u32
     requires { 16 ≤ length s.now }
     ensures { result ≡ feed_all state s.now }
