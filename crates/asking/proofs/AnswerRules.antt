@@ -6,19 +6,19 @@ use mathlib.Core.List.{List}
 use mathlib.Core.Option.{Option, none, some}
 use Prim.Native.Nat.{ℕ, ◌<◌}
 use lib.Dec.{leb}
-use Rattle.std.specs.Prelude.{Result, Ok, Err, Some}
+use Rattle.std.specs.Prelude.{Result, Ok, Err, Option as StdOption, Some}
+use Rattle.std.specs.Option.{ok_or}
 use Rattle.octets.proofs.Every.{either}
 use Rattle.dates.specs.Calendar.{is_date}
 use Rattle.dates.specs.Notice.{is_days}
 use Rattle.forms.specs.Identifiers.{is_hw_id, is_producer, is_cell_name}
-use Rattle.forms.specs.Output.{Output, refusal, written_of, lent_after, Answered}
-use Rattle.forms.specs.Refusals.{number_of}
+use Rattle.forms.specs.Output.{Output, refusal, Answered}
+use Rattle.forms.specs.Refusals.{by}
 use Rattle.forms.specs.declared.refusals.Refusal.{Refusal}
-use Rattle.forms.proofs.Numbered.{refusal_of_number}
 use Rattle.user_permit.specs.Register.{is_register}
 use Rattle.user_permit.specs.UserPermit.{read_permit}
 use Rattle.cell_permit.specs.CellPermit.{written_line}
-use Rattle.cell_permit.specs.Line.{given_number, read_line}
+use Rattle.cell_permit.specs.Line.{given_answer, read_line}
 use Rattle.tenants.specs.declared.Held.{Held}
 use Rattle.tenants.specs.declared.Setting.{Setting}
 use Rattle.tenants.specs.Cells.{cell_of, holds_any}
@@ -40,20 +40,17 @@ pub answered_same : (o same : Output) (before : List ℕ) (answer : Result ℕ R
     → Answered same before answer after → Answered o before answer after
 answered_same o same before answer after e answered = rw e answered
 
--- a refusal of the user permit is answered
-pub line-refused : (o : Output) (r : Refusal) (before : List ℕ) → o ≡ refusal (number_of r) → Answered o before (Err r) before
-line-refused o r before e = (ap Err (sym (refusal_of_number r)) ∙ sym (ap written_of e), sym (ap (λ (x : Output). lent_after x before) e))
-
 -- an undamaged book, by what judging it tells
 pub judged_undamaged : (s : List ℕ) (t : ℕ) (r : Records) → judged s t ≡ Some r → is_book s ≡ true
 judged_undamaged s t r so = (judged_says s (list_in s t) r so).0
 
--- among the records where the tenant's stand the search finds the cell that it holds under a name, if any
+-- among the records where the tenant's stand the search finds the cell that it holds under a name, if any; else 104
 pub finds_own : (s : List ℕ) (t name : ℕ) (r : Records) → judged s t ≡ Some r → name < names
-    → found_cell s (searched s r.first r.past name) ≡ held_cell (cell_of name (own_in s t).cells)
-finds_own s t name r so small = ap (found_cell s) (searches_own s t name r so) ∙ go (searched_for s t name) refl
+    → (held : StdOption Held) → held ≡ found_cell s (searched s r.first r.past name) → ok_or held (by 104) ≡ held_cell (cell_of name (own_in s t).cells)
+finds_own s t name r so small held is =
+    ap (λ (h : StdOption Held). ok_or h (by 104)) (is ∙ ap (found_cell s) (searches_own s t name r so)) ∙ go (searched_for s t name) refl
   where
-    go : (f : Found) → searched_for s t name ≡ f → found_cell s f ≡ held_cell (cell_of name (own_in s t).cells)
+    go : (f : Found) → searched_for s t name ≡ f → ok_or (found_cell s f) (by 104) ≡ held_cell (cell_of name (own_in s t).cells)
     go (At i) found = ap held_cell (sym (finds_held s t name i (judged_undamaged s t r so) small found))
     go (Absent i) found = ap held_cell (sym (finds_none s t name i (judged_undamaged s t r so) small found))
 
@@ -119,7 +116,7 @@ module _ (hw expiry level room : ℕ) (cell : Option Held) (setting : Setting) w
       go (some c) so = cc
 
   module _ (it : Held) (held : held_cell cell ≡ Ok it) where
-    pub line-late : in_time it expiry ≡ false → line_written hw cell setting expiry level room ≡ refusal 112
+    pub line-late : in_time it expiry ≡ false → line_written hw cell setting expiry level room ≡ refusal (by 112)
     line-late late = rw (is_held_cell cell it held, late)
 
     pub line-held : (own : Setting) → setting ≡ own → in_time it expiry ≡ true
@@ -129,7 +126,7 @@ module _ (hw expiry level room : ℕ) (cell : Option Held) (setting : Setting) w
 -- with warning days the line is read as a call by itself reads it
 pub checked-line : (s : List ℕ) (t hw today : ℕ) (line : List ℕ) (setting : Setting) → is_book s ≡ true → is_tenant t ≡ true
     → (own_in s t).setting ≡ setting → is_days setting.days ≡ true → checked_by s t hw today line ≡ read_line hw today setting.days line
-unfolding checked_by checking read_line given_number is_days
+unfolding checked_by checking read_line given_answer is_days
 checked-line s t hw today line setting undamaged tenant is days =
     rw (undamaged, tenant, is, days)
     (either (is_hw_id hw)

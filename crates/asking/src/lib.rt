@@ -21,14 +21,14 @@ use records::finding::{Found, cell_at, find};
 use tenants::Held;
 use walking::any_among;
 
-// The cell of a name among some records.
-fn held(book: &[u8], among: Records, name: u64) -> Result<Held, Refusal>
+// The cell of a name among some records, if it is there.
+fn held(book: &[u8], among: Records, name: u64) -> Option<Held>
     ensures { result ≡ found_cell book.now (searched book.now among.first among.past name) }
 {
     let Found::At(i) = find(book, among, name) else {
-        return Err(Refusal::NotHeld);
+        return None;
     };
-    Ok(cell_at(book, i))
+    Some(cell_at(book, i))
 }
 
 // The edition of a cell that a tenant holds.
@@ -45,7 +45,7 @@ pub fn ask_edition(book: &[u8], tenant: u32, name: u64) -> Result<u32, Refusal>
     if !is_cell_name(name) {
         return Err(Refusal::Value);
     }
-    let cell = held(book, own, name)?;
+    let cell = held(book, own, name).ok_or(Refusal::NotHeld)?;
     Ok(cell.edition)
 }
 
@@ -106,7 +106,7 @@ fn issue_for(
         × (out.new ≡ lent_after (line_written hw (cell_of order.name (own_in book.now tenant).cells)
         (own_in book.now tenant).setting order.expiry order.level (length out.old)) out.old) }
 {
-    let held = held(book, own, order.name)?;
+    let held = held(book, own, order.name).ok_or(Refusal::NotHeld)?;
     if !in_time(held, order.expiry) {
         return Err(Refusal::Expiry);
     }

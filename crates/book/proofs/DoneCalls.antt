@@ -12,7 +12,10 @@ use Rattle.octets.proofs.Every.{either}
 use Rattle.dates.specs.Notice.{is_days}
 use Rattle.forms.specs.Order.{demand}
 use Rattle.forms.specs.Identifiers.{is_cell_name}
+use Rattle.forms.specs.Refusals.{by}
+use Rattle.forms.specs.declared.refusals.Refusal.{Refusal}
 use Rattle.forms.proofs.Demands.{passed}
+use Rattle.forms.proofs.Numbered.{has_number}
 use Rattle.tenants.specs.declared.Held.{Held}
 use Rattle.tenants.specs.Cells.{entered, withdrawn, cell_of}
 use Rattle.tenants.specs.Rules.{Own, Change, enters, withdraws, sets, refuses, change_number, is_tenant, is_held, names_none, is_some, entering, withdrawing, setting_days, asking, issuing}
@@ -35,9 +38,9 @@ use Rattle.book.proofs.Undamaged.{still_undamaged, book_after_lem}
 use Rattle.book.proofs.Issues.{issued_line, line_checked}
 
 -- what is done was not refused
-not_refused : (test : Bool) (n : ℕ) (next : Change) → (n ≡ 0 → ⊥) → change_number (demand test (refuses n) next) ≡ 0
+not_refused : (test : Bool) (r : Refusal) (next : Change) → change_number (demand test (refuses r) next) ≡ 0
     → (test ≡ true) × (change_number next ≡ 0)
-not_refused test n next = passed (λ (c : Change). change_number c ≡ 0) test (refuses n) next
+not_refused test r next = passed (λ (c : Change). change_number c ≡ 0) test (refuses r) next (has_number r)
 
 -- what is the tenant's own after a call on an undamaged book
 pub own_then : (s : List ℕ) (t : ℕ) (call : Call) → is_book s ≡ true → own_in (book_after t call s) t ≡ after (change_of t call (own_in s t)) (own_in s t)
@@ -109,15 +112,15 @@ module _ (s : List ℕ) (t u : ℕ) (call : Call) (undamaged : is_book s ≡ tru
 module _ (s : List ℕ) (t : ℕ) (cell : Held) (done : change_number (entry s t cell) ≡ 0) where
   pub entered-passed : (is_book s ≡ true) × (change_number (entering t cell (own_in s t)) ≡ 0)
   unfolding entry
-  entered-passed = not_refused (is_book s) 101 (entering t cell (own_in s t)) (λ e. omega arith) done
+  entered-passed = not_refused (is_book s) (by 101) (entering t cell (own_in s t)) done
 
   pub entered_so : (is_tenant t ≡ true) × ((is_held cell ≡ true) × ((names_none (own_in s t).setting ≡ true) × (entering t cell (own_in s t) ≡ enters cell)))
   unfolding entering
   entered_so =
-      let one = not_refused (is_tenant t) 102 _ (λ e. omega arith) entered-passed.1 in
-      let two = not_refused (is_held cell) 103 _ (λ e. omega arith) one.1 in
-      let three = not_refused (names_none (own_in s t).setting) 111 _ (λ e. omega arith) two.1 in
-      let four = not_refused (has_room cell (own_in s t)) 105 (enters cell) (λ e. omega arith) three.1 in
+      let one = not_refused (is_tenant t) (by 102) _ entered-passed.1 in
+      let two = not_refused (is_held cell) (by 103) _ one.1 in
+      let three = not_refused (names_none (own_in s t).setting) (by 111) _ two.1 in
+      let four = not_refused (has_room cell (own_in s t)) (by 105) (enters cell) three.1 in
       (one.0, (two.0, (three.0, rw (one.0, two.0, three.0, four.0) refl)))
 
   enters_it : (u : ℕ) → after (change_of t (enter cell) (own_in s t)) (own_in s u) ≡ record { setting = (own_in s u).setting; cells = entered cell (own_in s u).cells }
@@ -145,16 +148,16 @@ enter_done_lem s t cell done =
 module _ (s : List ℕ) (t name : ℕ) (done : change_number (withdrawal s t name) ≡ 0) where
   pub withdrawn-passed : (is_book s ≡ true) × (change_number (withdrawing t name (own_in s t)) ≡ 0)
   unfolding withdrawal
-  withdrawn-passed = not_refused (is_book s) 101 (withdrawing t name (own_in s t)) (λ e. omega arith) done
+  withdrawn-passed = not_refused (is_book s) (by 101) (withdrawing t name (own_in s t)) done
 
   pub withdrawn_so : (is_tenant t ≡ true)
       × ((is_cell_name name ≡ true) × ((names_none (own_in s t).setting ≡ true) × (withdrawing t name (own_in s t) ≡ withdraws name)))
   unfolding withdrawing
   withdrawn_so =
-      let one = not_refused (is_tenant t) 102 _ (λ e. omega arith) withdrawn-passed.1 in
-      let two = not_refused (is_cell_name name) 103 _ (λ e. omega arith) one.1 in
-      let three = not_refused (names_none (own_in s t).setting) 111 _ (λ e. omega arith) two.1 in
-      let four = not_refused (is_some (cell_of name (own_in s t).cells)) 104 (withdraws name) (λ e. omega arith) three.1 in
+      let one = not_refused (is_tenant t) (by 102) _ withdrawn-passed.1 in
+      let two = not_refused (is_cell_name name) (by 103) _ one.1 in
+      let three = not_refused (names_none (own_in s t).setting) (by 111) _ two.1 in
+      let four = not_refused (is_some (cell_of name (own_in s t).cells)) (by 104) (withdraws name) three.1 in
       (one.0, (two.0, (three.0, rw (one.0, two.0, three.0, four.0) refl)))
 
   withdraws_it : (u : ℕ) → after (change_of t (withdraw name) (own_in s t)) (own_in s u) ≡ record { setting = (own_in s u).setting; cells = withdrawn name (own_in s u).cells }
@@ -184,9 +187,9 @@ withdraw_done_lem s t name done =
 pub days_done : DaysDone
 unfolding new_days setting_days
 days_done s t days done =
-    let one = not_refused (is_book s) 101 _ (λ e. omega arith) done in
-    let two = not_refused (is_tenant t) 102 _ (λ e. omega arith) one.1 in
-    let three = not_refused (is_days days) 103 (sets days) (λ e. omega arith) two.1 in
+    let one = not_refused (is_book s) (by 101) _ done in
+    let two = not_refused (is_tenant t) (by 102) _ one.1 in
+    let three = not_refused (is_days days) (by 103) (sets days) two.1 in
     let how : setting_days t days (own_in s t) ≡ sets days = rw (two.0, three.0) refl in
     let own = own_then s t (set_days days) one.0 ∙ ap (λ (c : Change). after c (own_in s t)) how in (
       ap (λ (o : Own). o.setting.days) own,

@@ -7,7 +7,7 @@ use mathlib.Core.Option.{Option, none, some}
 use Prim.Native.Nat.{ℕ}
 use Rattle.std.specs.Prelude.{Result, Ok, Err}
 use Rattle.octets.specs.Every.{count_of}
-use Rattle.forms.specs.Refusals.{refused, refusal_number}
+use Rattle.forms.specs.Refusals.{by, refused, refusal_number}
 use Rattle.forms.specs.declared.refusals.Refusal.{Refusal}
 use Rattle.forms.proofs.Demands.{demanded}
 use Rattle.tenants.specs.declared.Held.{Held}
@@ -26,7 +26,7 @@ use Rattle.records.proofs.Listed.{entered_gone, withdrawn_here}
 use Rattle.records.proofs.OwnFound.{held_somewhere, absent_somewhere}
 use Rattle.changing.specs.Changing.{entry, withdrawal}
 use Rattle.changing.specs.House.{moved_records, house_answer}
-use Rattle.changing.proofs.Numbers.{entry_numbered, withdrawal_numbered}
+use Rattle.changing.proofs.Numbers.{same_number}
 use Rattle.asking.specs.Asking.{edition_in}
 use Rattle.book.specs.OnBook.{book_after}
 use Rattle.book.specs.House.{house_enter, house_withdraw, AsTenants, RefusedMovesNone, ReplacedMovesNone, Moves, EnterMoves, WithdrawMoves}
@@ -35,7 +35,7 @@ use Rattle.book.proofs.DoneCalls.{entered-passed, entered_so, withdrawn-passed, 
 use Rattle.book.proofs.Producers.{told_held, edition-passed}
 
 pub as_tenants : AsTenants
-as_tenants s t = (λ cell. ap number ((entry_numbered s t cell).houses t s), λ name. ap number ((withdrawal_numbered s t name).houses t s))
+as_tenants s t = (λ cell. ap number (same_number t s (entry s t cell)), λ name. ap number (same_number t s (withdrawal s t name)))
 
 moves_none : (a : Result ℕ Refusal) → (refusal_number a ≡ 0 → ⊥) → moved_records a ≡ 0
 moves_none (Ok n) wrong = absurd (wrong refl)
@@ -49,18 +49,18 @@ unfolding entry entering
 replaced_moves_none s t cell e told =
     let none-moved : Change → Type 0 = λ (c : Change). moved_records (house_answer t s c) ≡ 0 in
     let held = told_held (cell_of cell.name (own_in s t).cells) e (edition-passed s t cell.name e told).3 in
-    demanded none-moved (is_book s) (refuses 101) (entering t cell (own_in s t)) refl
-    (λ _. demanded none-moved (is_tenant t) (refuses 102) _ refl
-    (λ _. demanded none-moved (is_held cell) (refuses 103) _ refl
-    (λ _. demanded none-moved (names_none (own_in s t).setting) (refuses 111) _ refl
-    (λ _. demanded none-moved (has_room cell (own_in s t)) (refuses 105) (enters cell) refl (λ _. none-replaced t cell (book_of s) held.0 held.1)))))
+    demanded none-moved (is_book s) (refuses (by 101)) (entering t cell (own_in s t)) refl
+    (λ _. demanded none-moved (is_tenant t) (refuses (by 102)) _ refl
+    (λ _. demanded none-moved (is_held cell) (refuses (by 103)) _ refl
+    (λ _. demanded none-moved (names_none (own_in s t).setting) (refuses (by 111)) _ refl
+    (λ _. demanded none-moved (has_room cell (own_in s t)) (refuses (by 105)) (enters cell) refl (λ _. none-replaced t cell (book_of s) held.0 held.1)))))
 
 -- who is told 104 does not hold the cell
-told_absent : (held : Option Held) → edition_of held ≡ refused 104 → held ≡ none
+told_absent : (held : Option Held) → edition_of held ≡ refused (by 104) → held ≡ none
 told_absent none told = refl
 told_absent (some c) told = cc
 
-module _ (s : List ℕ) (t : ℕ) (cell : Held) (done : change_number (entry s t cell) ≡ 0) (new : edition_in s t cell.name ≡ refused 104) where
+module _ (s : List ℕ) (t : ℕ) (cell : Held) (done : change_number (entry s t cell) ≡ 0) (new : edition_in s t cell.name ≡ refused (by 104)) where
   undamaged : is_book s ≡ true
   undamaged = (entered-passed s t cell done).0
 
@@ -88,7 +88,7 @@ module _ (s : List ℕ) (t : ℕ) (cell : Held) (done : change_number (entry s t
 
 pub enter_moves : EnterMoves
 enter_moves s t cell told new =
-    let done = sym ((entry_numbered s t cell).houses t s) ∙ told in
+    let done = sym (same_number t s (entry s t cell)) ∙ told in
     let place = around s t cell done new in
     let h : Gone (full_name t cell.name) (book_of s).records place.0 = place.1 in
     let then = entered_gone (in_book t cell) (book_of s).records place.0 h in
@@ -129,7 +129,7 @@ module _ (s : List ℕ) (t name : ℕ) (done : change_number (withdrawal s t nam
 
 pub withdraw_moves : WithdrawMoves
 withdraw_moves s t name told =
-    let done = sym ((withdrawal_numbered s t name).houses t s) ∙ told in
+    let done = sym (same_number t s (withdrawal s t name)) ∙ told in
     let place = held_there s t name done in
     let h : Here (full_name t name) (book_of s).records place.0 = place.1 in
     let then = withdrawn_here (full_name t name) (book_of s).records place.0 h in

@@ -11,6 +11,7 @@ use Rattle.octets.proofs.Every.{and_first, and_second}
 use Rattle.dates.specs.Calendar.{is_date}
 use Rattle.forms.specs.Identifiers.{is_cell_name}
 use Rattle.forms.specs.Output.{refusal, InCapitals}
+use Rattle.forms.specs.Refusals.{by}
 use Rattle.forms.proofs.Demands.{demanded}
 use Rattle.forms.specs.declared.refusals.Refusal.{Refusal}
 use Rattle.user_permit.specs.Register.{is_register}
@@ -31,17 +32,17 @@ line_in_capitals : (hw : ℕ) (cell : Option Held) (setting : Setting) (expiry l
     → InCapitals (line_written hw cell setting expiry level room)
 line_in_capitals hw none setting expiry level room = refl
 line_in_capitals hw (some cell) setting expiry level room =
-    demanded InCapitals (in_time cell expiry) (refusal 112) _ refl (λ _. written_in_capitals hw room (line_cell setting cell expiry level))
+    demanded InCapitals (in_time cell expiry) (refusal (by 112)) _ refl (λ _. written_in_capitals hw room (line_cell setting cell expiry level))
 
 pub issued_in_capitals : IssuedInCapitals
 unfolding issued_from issuing
 issued_in_capitals s register permit t name expiry level room =
     let cell = cell_of name (own_in s t).cells in
-    demanded InCapitals (is_book s) (refusal 101) _ refl
-    (λ undamaged. demanded InCapitals (is_register register) (refusal 109) _ refl
-    (λ _. demanded InCapitals (is_tenant t) (refusal 102) _ refl
-    (λ tenant. demanded InCapitals (leb 76 room) (refusal 108) _ refl
-    (λ roomy. demanded InCapitals (is_cell_name name && is_date expiry && leb level 1) (refusal 103) _ refl
+    demanded InCapitals (is_book s) (refusal (by 101)) _ refl
+    (λ undamaged. demanded InCapitals (is_register register) (refusal (by 109)) _ refl
+    (λ _. demanded InCapitals (is_tenant t) (refusal (by 102)) _ refl
+    (λ tenant. demanded InCapitals (leb 76 room) (refusal (by 108)) _ refl
+    (λ roomy. demanded InCapitals (is_cell_name name && is_date expiry && leb level 1) (refusal (by 103)) _ refl
     (λ values.
     let date = and_second (is_cell_name name) (is_date expiry) (and_first (is_cell_name name && is_date expiry) (leb level 1) values) in
     let low = leb-true level 1 (and_second (is_cell_name name && is_date expiry) (leb level 1) values) in

@@ -13,12 +13,13 @@ use Rattle.dates.specs.Notice.{is_days}
 use Rattle.forms.specs.Identifiers.{is_hw_id, is_cell_name}
 use Rattle.forms.specs.Order.{demand}
 use Rattle.forms.specs.Output.{text, refusal}
+use Rattle.forms.specs.Refusals.{by, refusal_number}
 use Rattle.user_permit.specs.Register.{is_register}
 use Rattle.user_permit.specs.UserPermit.{read_permit}
 use Rattle.user_permit.specs.declared.Ship.{Ship}
 use Rattle.user_permit.proofs.ShipRead.{ship_form}
 use Rattle.cell_permit.specs.CellPermit.{ship_words, line_of, line_end}
-use Rattle.cell_permit.specs.Line.{given_number, read_with, read_line}
+use Rattle.cell_permit.specs.Line.{given_answer, read_with, read_line}
 use Rattle.cell_permit.specs.ReadBack.{record_for}
 use Rattle.cell_permit.proofs.LineBack.{line_reads_back}
 use Rattle.tenants.specs.declared.Held.{Held}
@@ -32,21 +33,21 @@ use Rattle.asking.proofs.LineWritten.{set_days_lem, fits, cell-good}
 use Rattle.book.specs.Kept.{IssuedReadsBack}
 
 module _ (hw today days : ℕ) (form : is_hw_id hw ≡ true) (date : is_date today ≡ true) (right : is_days days ≡ true) where
-  given-zero : given_number hw today days ≡ 0
-  unfolding given_number is_days
-  given-zero = rw (form, date, right)
+  given-good : given_answer hw today days ≡ Ok tt
+  unfolding given_answer is_days
+  given-good = rw (form, date, right)
 
   -- what is given is good, so the line is read
   read_so : (line : List ℕ) → read_line hw today days line ≡ read_with (ship_words hw) today days line
   unfolding read_line
-  read_so line = rw given-zero
+  read_so line = rw given-good
 
 -- the line that is issued of a held cell
 module _ (s register permit : List ℕ) (t name expiry level room : ℕ) (ship : Ship) (cell : Held) (undamaged : is_book s ≡ true) (tenant : is_tenant t ≡ true)
     (registered : is_register register ≡ true) (read : read_permit register permit ≡ Ok ship) (found : cell_of name (own_in s t).cells ≡ some cell)
     (date : is_date expiry ≡ true) (low : level ≤ 1) (roomy : 76 ≤ room) where
   pub issued_line : issued_from s register t name expiry level permit room
-      ≡ demand (in_time cell expiry) (refusal 112) (text (line_of (ship_words ship.hw_id) (line_cell (own_in s t).setting cell expiry level) ++ line_end))
+      ≡ demand (in_time cell expiry) (refusal (by 112)) (text (line_of (ship_words ship.hw_id) (line_cell (own_in s t).setting cell expiry level) ++ line_end))
   unfolding issued_from issuing
   issued_line =
       let is_name : is_cell_name name ≡ true = ap is_cell_name (sym (found_name name (own_in s t).cells cell found)) ∙ (fits s t undamaged tenant name cell found).name in
@@ -64,7 +65,7 @@ line_checked s t name expiry level hw today cell undamaged tenant found date low
     rw (undamaged, tenant, form, now)
     (sym (read_so hw today setting.days form now days _)
     ∙ (line_reads_back hw today setting.days 76 (line_cell setting cell expiry level)
-    (cell-good s t undamaged tenant expiry level date low name cell found) (given-zero hw today setting.days form now days) (omega arith)).1.1)
+    (cell-good s t undamaged tenant expiry level date low name cell found) (ap refusal_number (given-good hw today setting.days form now days)) (omega arith)).1.1)
 
 pub issued_reads_back : IssuedReadsBack
 issued_reads_back s register permit t name expiry level room today ship cell undamaged tenant registered read found date early low roomy now = (

@@ -13,6 +13,7 @@ use Rattle.dates.specs.Calendar.{is_date}
 use Rattle.forms.specs.Order.{demand}
 use Rattle.forms.specs.Identifiers.{is_cell_name}
 use Rattle.forms.specs.Output.{Output, text, refusal}
+use Rattle.forms.specs.Refusals.{by}
 use Rattle.user_permit.specs.Register.{is_register}
 use Rattle.forms.specs.declared.refusals.Refusal.{Refusal}
 use Rattle.user_permit.specs.UserPermit.{read_permit}
@@ -40,27 +41,27 @@ module _ (cell : Held) (expiry : ℕ) where
       (λ low. rw (has, low))
       (λ high. absurd (not (eqb-false cell.last 0 has, leb-false expiry cell.last high))))
 
-no_line : {n : ℕ} {line : List ℕ} → refusal n ≡ text line → ⊥
+no_line : {r : Refusal} {line : List ℕ} → refusal r ≡ text line → ⊥
 no_line same = let never : false ≡ true = cc in false≢true never
 
 -- what was given, and what is given: the same refusal, or of a line that of its cell
 module _ (cell : Option Held) (expiry : ℕ) where
   pub record Limits (before now : Output) : Type 0 where
-    pub refused : (n : ℕ) → before ≡ refusal n → now ≡ refusal n
+    pub refused : (r : Refusal) → before ≡ refusal r → now ≡ refusal r
     pub lined : (line : List ℕ) → before ≡ text line
-        → (it : Held) × (cell ≡ some it) × ((TooLate it expiry → now ≡ refusal 112) × ((TooLate it expiry → ⊥) → now ≡ text line))
+        → (it : Held) × (cell ≡ some it) × ((TooLate it expiry → now ≡ refusal (by 112)) × ((TooLate it expiry → ⊥) → now ≡ text line))
 
   -- a refusal that comes first
-  first : (test : Bool) (n : ℕ) (before now : Output) → Limits before now → Limits (demand test (refusal n) before) (demand test (refusal n) now)
-  first true n before now limits = limits
-  first false n before now limits = record { refused = λ k same. same; lined = λ line same. absurd (no_line same) }
+  first : (test : Bool) (r : Refusal) (before now : Output) → Limits before now → Limits (demand test (refusal r) before) (demand test (refusal r) now)
+  first true r before now limits = limits
+  first false r before now limits = record { refused = λ x same. same; lined = λ line same. absurd (no_line same) }
 
 lines : (ship : Result Ship Refusal) (cell : Option Held) (setting : Setting) (expiry level : ℕ)
     → Limits cell expiry (line_for_before ship cell setting expiry level) (line_for ship cell setting expiry level)
-lines (Err r) cell setting expiry level = record { refused = λ k same. same; lined = λ line same. absurd (no_line same) }
-lines (Ok ship) none setting expiry level = record { refused = λ k same. same; lined = λ line same. absurd (no_line same) }
+lines (Err r) cell setting expiry level = record { refused = λ x same. same; lined = λ line same. absurd (no_line same) }
+lines (Ok ship) none setting expiry level = record { refused = λ x same. same; lined = λ line same. absurd (no_line same) }
 lines (Ok ship) (some cell) setting expiry level = record {
-  refused = λ k same. cc;
+  refused = λ x same. cc;
   lined = λ line same. (cell, refl, (λ too. rw (late cell expiry too), λ not. rw (early cell expiry not) same));
 }
 
@@ -69,9 +70,9 @@ unfolding issued_from issuing issuing_before
 late_refused s register permit t name expiry level room undamaged =
     let cell = cell_of name (own_in s t).cells in
     let limits =
-    first cell expiry (is_register register) 109 _ _
-    (first cell expiry (is_tenant t) 102 _ _
-    (first cell expiry (leb 76 room) 108 _ _
-    (first cell expiry (is_cell_name name && is_date expiry && leb level 1) 103 _ _
+    first cell expiry (is_register register) (by 109) _ _
+    (first cell expiry (is_tenant t) (by 102) _ _
+    (first cell expiry (leb 76 room) (by 108) _ _
+    (first cell expiry (is_cell_name name && is_date expiry && leb level 1) (by 103) _ _
     (lines (read_permit register permit) cell (own_in s t).setting expiry level)))) in
-    (λ n before. rw undamaged (limits.refused n before), λ line before. rw undamaged (limits.lined line before))
+    (λ r before. rw undamaged (limits.refused r before), λ line before. rw undamaged (limits.lined line before))

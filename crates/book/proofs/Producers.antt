@@ -9,7 +9,7 @@ use lib.Dec.{eqb}
 use Rattle.std.specs.Prelude.{Result, Ok, Err}
 use Rattle.octets.proofs.Every.{either}
 use Rattle.forms.specs.Identifiers.{is_producer, is_cell_name}
-use Rattle.forms.specs.Refusals.{refused}
+use Rattle.forms.specs.Refusals.{by, refused}
 use Rattle.forms.specs.declared.refusals.Refusal.{Refusal}
 use Rattle.forms.proofs.Demands.{passed}
 use Rattle.tenants.specs.declared.Held.{Held}
@@ -68,9 +68,9 @@ module _ (s : List ℕ) (t : ℕ) where
     unfolding holding_in asking_producer
     any-passed =
         let is_yes : Result Bool Refusal → Type 0 = λ (h : Result Bool Refusal). h ≡ Ok true in
-        let book = passed is_yes (is_book s) (refused 101) (asking_producer t producer (own_in s t)) never_any yes in
-        let tenant = passed is_yes (is_tenant t) (refused 102) _ never_any book.1 in
-        let fit = passed is_yes (is_producer producer) (refused 103) _ never_any tenant.1 in
+        let book = passed is_yes (is_book s) (refused (by 101)) (asking_producer t producer (own_in s t)) never_any yes in
+        let tenant = passed is_yes (is_tenant t) (refused (by 102)) _ never_any book.1 in
+        let fit = passed is_yes (is_producer producer) (refused (by 103)) _ never_any tenant.1 in
         (book.0, tenant.0, any_same fit.1)
 
     edition-told : (name : ℕ) × (e : ℕ) × (producer_of name ≡ producer) × (edition_in s t name ≡ Ok e)
@@ -85,9 +85,9 @@ module _ (s : List ℕ) (t : ℕ) where
     unfolding edition_in asking
     edition-passed =
         let is_told : Result ℕ Refusal → Type 0 = λ (a : Result ℕ Refusal). a ≡ Ok e in
-        let book = passed is_told (is_book s) (refused 101) (asking t name (own_in s t)) never_edition told in
-        let tenant = passed is_told (is_tenant t) (refused 102) _ never_edition book.1 in
-        let named = passed is_told (is_cell_name name) (refused 103) _ never_edition tenant.1 in
+        let book = passed is_told (is_book s) (refused (by 101)) (asking t name (own_in s t)) never_edition told in
+        let tenant = passed is_told (is_tenant t) (refused (by 102)) _ never_edition book.1 in
+        let named = passed is_told (is_cell_name name) (refused (by 103)) _ never_edition tenant.1 in
         (book.0, tenant.0, named.0, named.1)
 
     any_told : holding_in s t (producer_of name) ≡ Ok true

@@ -4,7 +4,7 @@ use Rattle.dates.specs.Calendar.{is_date}
 use Rattle.forms.specs.Order.{demand}
 use Rattle.forms.specs.Identifiers.{is_hw_id}
 use Rattle.forms.specs.Output.{text, refusal}
-use Rattle.forms.specs.Refusals.{refused}
+use Rattle.forms.specs.Refusals.{by, refused}
 use Rattle.user_permit.specs.Register.{is_register}
 use Rattle.user_permit.specs.UserPermit.{read_permit}
 use Rattle.user_permit.specs.declared.Ship.{Ship}
@@ -48,16 +48,16 @@ pub record GivesCell (s : List ℕ) (t : ℕ) (setting : Setting) (cell : Held) 
   pub asked : edition_in s t cell.name ≡ Ok cell.edition
   pub issued : (register permit : List ℕ) (expiry level room : ℕ) (ship : Ship) → GoodOrder register permit expiry level room ship
       → issued_from s register t cell.name expiry level permit room
-      ≡ demand (in_time cell expiry) (refusal 112) (text (line_of (ship_words ship.hw_id) (line_cell setting cell expiry level) ++ line_end))
+      ≡ demand (in_time cell expiry) (refusal (by 112)) (text (line_of (ship_words ship.hw_id) (line_cell setting cell expiry level) ++ line_end))
   pub checked : (expiry level hw today : ℕ) → is_date expiry ≡ true → level ≤ 1 → is_hw_id hw ≡ true → is_date today ≡ true
       → checked_by s t hw today (line_of (ship_words hw) (line_cell setting cell expiry level))
       ≡ record_for today setting.days (line_cell setting cell expiry level)
 
 -- a name gives tenant t nothing: it is not held
 pub record GivesNothing (s : List ℕ) (t name : ℕ) : Type 0 where
-  pub asked : edition_in s t name ≡ refused 104
+  pub asked : edition_in s t name ≡ refused (by 104)
   pub issued : (register permit : List ℕ) (expiry level room : ℕ) (ship : Ship) → GoodOrder register permit expiry level room ship
-      → issued_from s register t name expiry level permit room ≡ refusal 104
+      → issued_from s register t name expiry level permit room ≡ refusal (by 104)
 
 -- a call changed what is held under a name: whoever reads tenant t's list, t itself and its branches, is given what then holds of that name,
 -- under every other name what it was given before, and has the setting that it had

@@ -1,7 +1,7 @@
 -- What the book promises of the house's form of enter and withdraw: it is the tenant's call, and it tells how many records that moved.
 -- The house's answers are not among those of `Mixed`: they go by the records of all tenants.
 use Rattle.std.specs.Prelude.{◌≡◌, List, [], ◌∷◌, ◌++◌, ℕ, length, Result, Ok}
-use Rattle.forms.specs.Refusals.{refused, refusal_number}
+use Rattle.forms.specs.Refusals.{by, refused, refusal_number}
 use Rattle.forms.specs.declared.refusals.Refusal.{Refusal}
 use Rattle.tenants.specs.declared.Held.{Held}
 use Rattle.tenants.specs.Calls.{enter, withdraw, number}
@@ -51,7 +51,7 @@ pub record Moves (old new taken put : List BookRecord) (moved : ℕ) : Type 0 wh
 -- a new name is entered: the records after it moved, and no others, and so many are told; as many are later in order, by the bytes of the new book
 abbrev pub EnterMoves : Type 0
 EnterMoves =
-    (s : List ℕ) (t : ℕ) (cell : Held) → refusal_number (house_enter s t cell) ≡ 0 → edition_in s t cell.name ≡ refused 104
+    (s : List ℕ) (t : ℕ) (cell : Held) → refusal_number (house_enter s t cell) ≡ 0 → edition_in s t cell.name ≡ refused (by 104)
     → Moves (book_of s).records (book_of (book_after t (enter cell) s)).records [] (in_book t cell ∷ []) (moved_records (house_enter s t cell))
     × (moved_records (house_enter s t cell) ≡ later_in (book_of (book_after t (enter cell) s)) t cell.name)
 

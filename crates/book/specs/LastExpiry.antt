@@ -2,6 +2,8 @@
 use Rattle.std.specs.Prelude.{◌≡◌, true, List, ℕ, ◌<◌}
 use Rattle.std.proofs.Math.Option.{some}
 use Rattle.forms.specs.Output.{Output, text, refusal}
+use Rattle.forms.specs.Refusals.{by}
+use Rattle.forms.specs.declared.refusals.Refusal.{Refusal}
 use Rattle.tenants.specs.declared.Held.{Held}
 use Rattle.tenants.specs.Cells.{cell_of}
 use Rattle.tenants.specs.Version1.{issuing_before}
@@ -21,9 +23,9 @@ TooLate cell expiry = (cell.last ≡ 0 → ⊥) × (cell.last < expiry)
 abbrev pub LateRefused : Type 0
 LateRefused =
     (s register permit : List ℕ) (t name expiry level room : ℕ) → is_book s ≡ true
-    → ((n : ℕ) → issued_before s register t name expiry level permit room ≡ refusal n
-    → issued_from s register t name expiry level permit room ≡ refusal n)
+    → ((r : Refusal) → issued_before s register t name expiry level permit room ≡ refusal r
+    → issued_from s register t name expiry level permit room ≡ refusal r)
     × ((line : List ℕ) → issued_before s register t name expiry level permit room ≡ text line
     → (cell : Held) × (cell_of name (own_in s t).cells ≡ some cell)
-    × ((TooLate cell expiry → issued_from s register t name expiry level permit room ≡ refusal 112)
+    × ((TooLate cell expiry → issued_from s register t name expiry level permit room ≡ refusal (by 112))
     × ((TooLate cell expiry → ⊥) → issued_from s register t name expiry level permit room ≡ text line)))

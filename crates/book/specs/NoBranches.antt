@@ -2,6 +2,7 @@
 use Rattle.std.specs.Prelude.{◌≡◌, true, List, ℕ, ◌≤◌, ◌<◌, length, Ok}
 use Rattle.std.proofs.Math.Option.{none, some}
 use Rattle.forms.specs.Identifiers.{is_producer}
+use Rattle.forms.specs.Refusals.{by}
 use Rattle.tenants.specs.declared.Held.{Held}
 use Rattle.tenants.specs.Cells.{cell_of}
 use Rattle.tenants.specs.Rules.{enters, refuses, change_number, is_tenant, is_held, names_none}
@@ -34,7 +35,7 @@ pub record AsBefore (s : List ℕ) : Type 0 where
       × (((other : ℕ) → (other ≡ name → ⊥) → GivesTheSame s (withdrawn_book s t name) t other)
       × ((own_in (withdrawn_book s t name) t).setting ≡ (own_in s t).setting))
   pub quota_decides : (t : ℕ) (cell : Held) → is_tenant t ≡ true → is_held cell ≡ true → cell_of cell.name (own_in s t).cells ≡ none
-      → ((own_in s t).setting.quota ≤ length (own_in s t).cells → entry s t cell ≡ refuses 105)
+      → ((own_in s t).setting.quota ≤ length (own_in s t).cells → entry s t cell ≡ refuses (by 105))
       × (length (own_in s t).cells < (own_in s t).setting.quota → entry s t cell ≡ enters cell)
   pub held_replaced : (t : ℕ) (cell old : Held) → is_tenant t ≡ true → is_held cell ≡ true → cell_of cell.name (own_in s t).cells ≡ some old
       → entry s t cell ≡ enters cell

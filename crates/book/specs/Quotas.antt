@@ -2,6 +2,7 @@
 use Rattle.std.specs.Prelude.{◌≡◌, true, List, ℕ, ◌<◌, ◌≤◌, length}
 use Rattle.std.proofs.Math.Option.{none, some}
 use Rattle.forms.specs.Identifiers.{is_cell_name}
+use Rattle.forms.specs.Refusals.{by}
 use Rattle.tenants.specs.declared.Held.{Held}
 use Rattle.tenants.specs.Cells.{cell_of}
 use Rattle.tenants.specs.Rules.{enters, withdraws, refuses, is_tenant, is_held, names_none}
@@ -14,7 +15,7 @@ abbrev pub QuotaDecides : Type 0
 QuotaDecides =
     (s : List ℕ) (t : ℕ) (cell : Held) → is_book s ≡ true → is_tenant t ≡ true → is_held cell ≡ true → names_none (own_in s t).setting ≡ true
     → cell_of cell.name (own_in s t).cells ≡ none
-    → ((own_in s t).setting.quota ≤ length (own_in s t).cells → entry s t cell ≡ refuses 105)
+    → ((own_in s t).setting.quota ≤ length (own_in s t).cells → entry s t cell ≡ refuses (by 105))
     × (length (own_in s t).cells < (own_in s t).setting.quota → entry s t cell ≡ enters cell)
 
 -- and a held name is replaced whatever the quota
@@ -33,5 +34,5 @@ RoomAgain =
 abbrev pub BranchRefused : Type 0
 BranchRefused =
     (s : List ℕ) (t : ℕ) → is_book s ≡ true → IsBranch s t
-    → ((cell : Held) → is_held cell ≡ true → entry s t cell ≡ refuses 111)
-    × ((name : ℕ) → is_cell_name name ≡ true → withdrawal s t name ≡ refuses 111)
+    → ((cell : Held) → is_held cell ≡ true → entry s t cell ≡ refuses (by 111))
+    × ((name : ℕ) → is_cell_name name ≡ true → withdrawal s t name ≡ refuses (by 111))

@@ -17,7 +17,7 @@ use Rattle.text.proofs.SameTexts.{same_refl}
 use Rattle.text.proofs.PlacedTexts.{placed_start}
 use Rattle.std.specs.Prelude.{Result, Ok, ⊤}
 use Rattle.forms.specs.Output.{written_of, lent_after}
-use Rattle.forms.specs.Refusals.{refused, refusal_number, done_or}
+use Rattle.forms.specs.Refusals.{by, refused, done_or}
 use Rattle.forms.specs.declared.refusals.Refusal.{Refusal}
 use Rattle.tenants.specs.Together.{Book, is_good}
 use Rattle.tenants.specs.Version1.{no_lasts}
@@ -121,18 +121,18 @@ carries_over s undamaged =
 -- the answer, and the second buffer afterwards
 abbrev pub CarriedOver : List ℕ → List ℕ → Result ⊤ Refusal → List ℕ → Type 0
 CarriedOver s lent answer after =
-    (answer ≡ done_or (refusal_number (written_of (carried_over s (length lent))))) × (after ≡ lent_after (carried_over s (length lent)) lent)
+    (answer ≡ done_or (written_of (carried_over s (length lent)))) × (after ≡ lent_after (carried_over s (length lent)) lent)
 
 module _ (s lent : List ℕ) where
-  pub is_damaged : is_book_by one s ≡ false → CarriedOver s lent (refused 101) lent
+  pub is_damaged : is_book_by one s ≡ false → CarriedOver s lent (refused (by 101)) lent
   unfolding carried_over
   is_damaged damaged = (rw damaged, rw damaged)
 
-  pub no_form : form_test one s ≡ false → CarriedOver s lent (refused 101) lent
+  pub no_form : form_test one s ≡ false → CarriedOver s lent (refused (by 101)) lent
   no_form wrong = is_damaged (either (is_book_by one s) (λ undamaged. absurd (never_both (form_test one s) wrong (old_form_lem s undamaged))) (λ damaged. damaged))
 
   module _ (undamaged : is_book_by one s ≡ true) where
-    pub wrong_size : (length lent ≡ book_size → ⊥) → CarriedOver s lent (refused 108) lent
+    pub wrong_size : (length lent ≡ book_size → ⊥) → CarriedOver s lent (refused (by 108)) lent
     unfolding carried_over
     wrong_size other = (rw (undamaged, ne_eqb (length lent) book_size other), rw (undamaged, ne_eqb (length lent) book_size other))
 

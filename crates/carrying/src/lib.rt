@@ -4,7 +4,7 @@
 ghost use Rattle.std.specs.Prelude.{◌≡◌, true, ◌++◌, ◌+◌, ◌≤◌, length};
 ghost use Rattle.text.specs.Texts.{placed};
 ghost use Rattle.forms.specs.Output.{written_of, lent_after};
-ghost use Rattle.forms.specs.Refusals.{refusal_number, done_or};
+ghost use Rattle.forms.specs.Refusals.{done_or};
 ghost use Rattle.layout.specs.Layout.{one, record_size_by, records_place, record_size, book_size, zeros};
 ghost use Rattle.carrying.specs.Carrying.{carried_over};
 ghost use Rattle.judging.specs.Judging.{form_test};
@@ -55,7 +55,7 @@ fn put_book(new: &mut [u8], book: &[u8])
 // Carries a version 1 book over into a second buffer, with no last expiry: 101 where it is damaged, then 108 for another length than a book's. It is written beside
 // the buffer first, and judged there, so that a refusal leaves the buffer as it was.
 pub fn carry_over(book: &[u8], new: &mut [u8]) -> Result<(), Refusal>
-    ensures { (result ≡ done_or (refusal_number (written_of (carried_over book.now (length new.old)))))
+    ensures { (result ≡ done_or (written_of (carried_over book.now (length new.old))))
         × (new.new ≡ lent_after (carried_over book.now (length new.old)) new.old) }
 {
     if !judging::has_old_form(book) {

@@ -14,24 +14,26 @@ use Rattle.octets.proofs.Digits.{digits_value, value_below, take_below, drop_bel
 use Rattle.octets.proofs.Every.{and_first}
 use Rattle.forms.specs.Identifiers.{is_cell_key}
 use Rattle.forms.specs.Output.{Output, text, refusal}
+use Rattle.forms.specs.Refusals.{by}
+use Rattle.forms.specs.declared.refusals.Refusal.{Refusal}
 use Rattle.forms.proofs.Demands.{passed}
 use Rattle.cell_file.specs.Enciphering.{most, enciphered, padded_file, file_written, is_carried, PartOutput, blocks, refused, carried_on, part_written, end_written}
 use Rattle.cell_file.specs.CutAnywhere.{joined, EachFits, InParts, end, part, CutAnywhere, PartsDone}
 use Rattle.cell_file.proofs.WholeBlocks.{carried-length, file_length, padded_cut}
 
 -- a text is no refusal
-pub no_refusal : (n : ℕ) (t : List ℕ) → refusal n ≡ text t → ⊥
-no_refusal n t e = let z : ◌≡◌ {A = ℕ} 0 1 = cc in omega arith
+pub no_refusal : (r : Refusal) (t : List ℕ) → refusal r ≡ text t → ⊥
+no_refusal r t e = let z : ◌≡◌ {A = ℕ} 0 1 = cc in omega arith
 
-no_part : (n : ℕ) (t c : List ℕ) → refused n ≡ blocks t c → ⊥
-no_part n t c e = let z : ◌≡◌ {A = ℕ} 0 1 = cc in omega arith
+no_part : (r : Refusal) (t c : List ℕ) → refused r ≡ blocks t c → ⊥
+no_part r t c e = let z : ◌≡◌ {A = ℕ} 0 1 = cc in omega arith
 
 -- an end that was done: the key is a cell key, and what was written
 end_says : (key x n room : ℕ) (t : List ℕ) → end_written key x n room ≡ text t → (is_cell_key key ≡ true) × (t ≡ enciphered key (padded_file (bytes_of n x)))
 unfolding end_written
 end_says key x n room t e =
-    let first = passed (λ (o : Output). o ≡ text t) (is_cell_key key && is_carried n x) (refusal 103) _ (no_refusal 103 t) e in
-    let second = passed (λ (o : Output). o ≡ text t) (leb 8 room) (refusal 108) _ (no_refusal 108 t) first.1 in
+    let first = passed (λ (o : Output). o ≡ text t) (is_cell_key key && is_carried n x) (refusal (by 103)) _ (no_refusal _ t) e in
+    let second = passed (λ (o : Output). o ≡ text t) (leb 8 room) (refusal (by 108)) _ (no_refusal _ t) first.1 in
     (and_first _ _ first.0, cc second.1)
 
 -- a part that was done: the same, and what it carried on
@@ -39,8 +41,8 @@ part_says : (key x n room : ℕ) (p t c : List ℕ) → part_written key x n p r
     → (is_cell_key key ≡ true) × ((t ≡ enciphered key (bytes_of n x ++ p)) × (c ≡ carried_on (bytes_of n x ++ p)))
 unfolding part_written
 part_says key x n room p t c e =
-    let first = passed (λ (o : PartOutput). o ≡ blocks t c) (is_cell_key key && leb (length p) most && is_carried n x) (refused 103) _ (no_part 103 t c) e in
-    let second = passed (λ (o : PartOutput). o ≡ blocks t c) (leb (8 * ((n + length p) / 8)) room) (refused 108) _ (no_part 108 t c) first.1 in
+    let first = passed (λ (o : PartOutput). o ≡ blocks t c) (is_cell_key key && leb (length p) most && is_carried n x) (refused (by 103)) _ (no_part _ t c) e in
+    let second = passed (λ (o : PartOutput). o ≡ blocks t c) (leb (8 * ((n + length p) / 8)) room) (refused (by 108)) _ (no_part _ t c) first.1 in
     (and_first _ _ (and_first _ _ first.0), (cc second.1, cc second.1))
 
 front_below : (s t : List ℕ) → Below 256 (s ++ t) → Below 256 s

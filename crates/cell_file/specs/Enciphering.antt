@@ -7,6 +7,8 @@ use Rattle.blocks.specs.Blocks.{each_block}
 use Rattle.forms.specs.Order.{demand}
 use Rattle.forms.specs.Identifiers.{is_cell_key}
 use Rattle.forms.specs.Output.{Output, text, refusal}
+use Rattle.forms.specs.Refusals.{by}
+use Rattle.forms.specs.declared.refusals.Refusal.{Refusal}
 
 -- the longest file and the longest part: 16 MiB
 abbrev pub most : ℕ
@@ -31,18 +33,18 @@ padded_file s = s ++ replicate (added s) (added s)
 -- enciphering a file, into an output of so many bytes
 unfoldable pub file_written : ℕ → List ℕ → ℕ → Output
 file_written key file room =
-    demand (is_cell_key key && leb (length file) most) (refusal 103)
-    (demand (leb (8 * (length file / 8 + 1)) room) (refusal 108)
+    demand (is_cell_key key && leb (length file) most) (refusal (by 103))
+    (demand (leb (8 * (length file / 8 + 1)) room) (refusal (by 108))
     (text (enciphered key (padded_file file))))
 
 -- x is the number of n carried bytes, at most seven
 unfoldable pub is_carried : ℕ → ℕ → Bool
 is_carried n x = leb n 7 && ltb x (256 ^ n)
 
--- what enciphering a part gives: the blocks that are written and the bytes that are carried on; or the number of the refusal
+-- what enciphering a part gives: the blocks that are written and the bytes that are carried on; or the refusal
 pub data PartOutput : Type 0 where
   blocks : List ℕ → List ℕ → PartOutput
-  refused : ℕ → PartOutput
+  refused : Refusal → PartOutput
 
 -- what stands after the whole blocks of s
 abbrev pub carried_on : List ℕ → List ℕ
@@ -51,13 +53,13 @@ carried_on s = drop (8 * (length s / 8)) s
 -- enciphering a part after n carried bytes, whose number is x: the whole blocks of both together
 unfoldable pub part_written : ℕ → ℕ → ℕ → List ℕ → ℕ → PartOutput
 part_written key x n part room =
-    demand (is_cell_key key && leb (length part) most && is_carried n x) (refused 103)
-    (demand (leb (8 * ((n + length part) / 8)) room) (refused 108)
+    demand (is_cell_key key && leb (length part) most && is_carried n x) (refused (by 103))
+    (demand (leb (8 * ((n + length part) / 8)) room) (refused (by 108))
     (blocks (enciphered key (bytes_of n x ++ part)) (carried_on (bytes_of n x ++ part))))
 
 -- the end, after n carried bytes: they get their padding, as a file of so few bytes
 unfoldable pub end_written : ℕ → ℕ → ℕ → ℕ → Output
 end_written key x n room =
-    demand (is_cell_key key && is_carried n x) (refusal 103)
-    (demand (leb 8 room) (refusal 108)
+    demand (is_cell_key key && is_carried n x) (refusal (by 103))
+    (demand (leb 8 room) (refusal (by 108))
     (text (enciphered key (padded_file (bytes_of n x)))))

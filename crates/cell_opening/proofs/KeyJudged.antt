@@ -22,7 +22,7 @@ use Rattle.cell_file.specs.Enciphering.{cell_words}
 use Rattle.cell_opening.specs.Opening.{deciphered, padding_of, is_padded_file, unpadded_file, gives_padding, text_under, has_blocks}
 use Rattle.cell_opening.specs.Judging.{padding_in, wholes, judged}
 use Rattle.std.specs.Prelude.{Option, Some, None, Ok, Err}
-use Rattle.forms.specs.Refusals.{refusal_of}
+use Rattle.forms.specs.Refusals.{by}
 use Rattle.cell_opening.proofs.LastBlock.{blocks_say, same_found, before, last, in_two, last_length, before_length, last_put}
 
 -- what is no Some is None
@@ -68,7 +68,7 @@ module _ (key crc : ℕ) (file words : List ℕ) (form : has_blocks file ≡ tru
         ∙ sym (same_found (before d file form) (last d file form) (last_length d file form))
         ∙ ap padding_in (sym (in_two d file form) ∙ all_is)
 
-    pub wrongly_padded : found ≡ None → Err (refusal_of 21) ≡ judged crc key file
+    pub wrongly_padded : found ≡ None → Err (by 21) ≡ judged crc key file
     unfolding judged gives_padding
     wrongly_padded e = sym (rw (no_padding (deciphered key file) (sym e ∙ found_in)))
 
@@ -89,7 +89,7 @@ module _ (key crc : ℕ) (file words : List ℕ) (form : has_blocks file ≡ tru
         crc_is : r ≡ crc32_of (text_under key file)
         crc_is = sum ∙ ap crc32_of text_is
 
-        pub other_crc : (r ≡ crc → ⊥) → Err (refusal_of 16) ≡ judged crc key file
+        pub other_crc : (r ≡ crc → ⊥) → Err (by 16) ≡ judged crc key file
         unfolding judged gives_padding
         other_crc other =
             let right = (some_padding (deciphered key file) n (sym some ∙ found_in)).0 in

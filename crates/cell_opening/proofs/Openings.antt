@@ -31,9 +31,8 @@ use Rattle.cell_opening.specs.Opening.{
 }
 use Rattle.cell_opening.specs.Judging.{wholes, judged, neither, opened_by}
 use Rattle.std.specs.Prelude.{Result, Ok, Err}
-use Rattle.forms.specs.Refusals.{number_of, refusal_of}
+use Rattle.forms.specs.Refusals.{by}
 use Rattle.forms.specs.declared.refusals.Refusal.{Refusal}
-use Rattle.forms.proofs.Numbered.{refusal_of_number}
 use Rattle.cell_opening.specs.declared.OpenedFile.{OpenedFile}
 use Rattle.cell_opening.specs.Answers.{file_answer, file_lent}
 use Rattle.cell_opening.proofs.LastBlock.{blocks_say}
@@ -45,7 +44,7 @@ FileAnswered o before answer after = AnswerAndLent (file_answer o) (file_lent o 
 
 -- what a key gives, by its two tests
 abbrev verdict : Bool → Bool → ℕ → Result ℕ Refusal
-verdict padded same n = cond padded (cond same (Ok n) (Err (refusal_of 16))) (Err (refusal_of 21))
+verdict padded same n = cond padded (cond same (Ok n) (Err (by 16))) (Err (by 21))
 
 right_tests : (padded same : Bool) (k n : ℕ) → verdict padded same k ≡ Ok n → (padded ≡ true) × ((same ≡ true) × (n ≡ k))
 right_tests true true k n e = (refl, (refl, cc))
@@ -59,7 +58,7 @@ not_right false same k r e = refl
 
 -- what comes of two keys, by their four tests
 abbrev chosen : Bool → Bool → Bool → Bool → Opened → Opened → Opened
-chosen p₁ s₁ p₂ s₂ one two = demand (p₁ || p₂) (refused 21) (demand ((p₁ && s₁) || (p₂ && s₂)) (refused 16) (cond (p₁ && s₁) one two))
+chosen p₁ s₁ p₂ s₂ one two = demand (p₁ || p₂) (refused (by 21)) (demand ((p₁ && s₁) || (p₂ && s₂)) (refused (by 16)) (cond (p₁ && s₁) one two))
 
 second_chosen : (p s : Bool) (one two : Opened) → (p && s) ≡ false → chosen p s true true one two ≡ two
 second_chosen true true one two e = let z : ◌≡◌ {A = ℕ} 0 1 = cc in absurd (omega arith)
@@ -71,12 +70,8 @@ said : (r₁ r₂ : Refusal) → ◌≡◌ {A = Result ℕ Refusal} (Err r₁) (
 said r₁ r₂ e = cc
 
 -- what is refused, by the refusals of both
-refused_by : Refusal → Refusal → Opened
-refused_by r₁ r₂ = refused (number_of (neither r₁ r₂))
-
 none_chosen : (p₁ s₁ p₂ s₂ : Bool) (k₁ k₂ : ℕ) (r₁ r₂ : Refusal) (one two : Opened) → verdict p₁ s₁ k₁ ≡ Err r₁ → verdict p₂ s₂ k₂ ≡ Err r₂
-    → chosen p₁ s₁ p₂ s₂ one two ≡ refused_by r₁ r₂
-unfolding refused_by
+    → chosen p₁ s₁ p₂ s₂ one two ≡ refused (neither r₁ r₂)
 none_chosen true true p₂ s₂ k₁ k₂ r₁ r₂ one two e f = let z : ◌≡◌ {A = ℕ} 0 1 = cc in absurd (omega arith)
 none_chosen true false true true k₁ k₂ r₁ r₂ one two e f = let z : ◌≡◌ {A = ℕ} 0 1 = cc in absurd (omega arith)
 none_chosen true false true false k₁ k₂ r₁ r₂ one two e f = rw (said _ _ e)
@@ -166,13 +161,13 @@ module _ (file : List ℕ) (one two crc : ℕ) (form : has_blocks file ≡ true)
 
     pub none_opened : (r₂ r : Refusal) (before : List ℕ) → judged crc two file ≡ Err r₂ → r ≡ neither r₁ r₂
         → FileAnswered (opened_by file one two crc) before (Err r) before
-    unfolding judged refused_by
+    unfolding judged
     none_opened r₂ r before second is =
-        let o : opened_by file one two crc ≡ refused_by r₁ r₂ =
+        let o : opened_by file one two crc ≡ refused (neither r₁ r₂) =
         is_chosen
         ∙ none_chosen (gives_padding one file) (same one) (gives_padding two file) (same two) (length (text_under one file)) (length (text_under two file)) r₁ r₂
         (opened 1 (text_under one file)) (opened 2 (text_under two file)) first second in
-        (ap Err (is ∙ sym (refusal_of_number (neither r₁ r₂))) ∙ sym (ap file_answer o), sym (ap (λ (p : Opened). file_lent p before) o))
+        (ap Err is ∙ sym (ap file_answer o), sym (ap (λ (p : Opened). file_lent p before) o))
 
 module _ (file : List ℕ) (one two crc room : ℕ) where
   module _ (k : one ≤ largest) (l : two ≤ largest) where

@@ -20,6 +20,7 @@ use Rattle.blocks.proofs.BackAgain.{each_back}
 use Rattle.forms.specs.Identifiers.{is_cell_key}
 use Rattle.forms.specs.Order.{demand}
 use Rattle.forms.specs.Output.{Output, text, refusal}
+use Rattle.forms.specs.Refusals.{by}
 use Rattle.forms.proofs.Demands.{passed}
 use Rattle.cell_file.specs.Enciphering.{most, cell_words, enciphered, added, padded_file, file_written}
 use Rattle.cell_file.proofs.WholeBlocks.{enciphered-length, padded-length, file_length}
@@ -71,23 +72,23 @@ file_says : (key room : ℕ) (file t : List ℕ) → file_written key file room 
     → (is_cell_key key ≡ true) × ((length file ≤ most) × (t ≡ enciphered key (padded_file file)))
 unfolding file_written
 file_says key room file t e =
-    let first = passed (λ (o : Output). o ≡ text t) (is_cell_key key && leb (length file) most) (refusal 103) _ (no_refusal 103 t) e in
-    let second = passed (λ (o : Output). o ≡ text t) (leb (8 * (length file / 8 + 1)) room) (refusal 108) _ (no_refusal 108 t) first.1 in
+    let first = passed (λ (o : Output). o ≡ text t) (is_cell_key key && leb (length file) most) (refusal (by 103)) _ (no_refusal _ t) e in
+    let second = passed (λ (o : Output). o ≡ text t) (leb (8 * (length file / 8 + 1)) room) (refusal (by 108)) _ (no_refusal _ t) first.1 in
     (and_first _ _ first.0, (leb-true _ _ (and_second (is_cell_key key) (leb (length file) most) first.0), cc second.1))
 
 -- keys, lengths and blocks as they must be: the padding and the CRC-32 decide
 decided : (file : List ℕ) (one two crc room : ℕ)
     → is_cell_key one ≡ true → is_cell_key two ≡ true → length file ≤ most + 8 → length file ≤ room → has_blocks file ≡ true
     → opened_file file one two crc room
-    ≡ demand (gives_padding one file || gives_padding two file) (refused 21)
-    (demand (is_right_key crc one file || is_right_key crc two file) (refused 16)
+    ≡ demand (gives_padding one file || gives_padding two file) (refused (by 21))
+    (demand (is_right_key crc one file || is_right_key crc two file) (refused (by 16))
     (cond (is_right_key crc one file) (opened 1 (text_under one file)) (opened 2 (text_under two file))))
 unfolding opened_file
 decided file one two crc room good_one good_two fits enough blocks =
     rw (good_one, good_two, le-leb (length file) (most + 8) fits, le-leb (length file) room enough, blocks)
 
 by_numbers : (padding right first : Bool) (t u : List ℕ)
-    → opened_number (demand padding (refused 21) (demand right (refused 16) (cond first (opened 1 t) (opened 2 u)))) ≡ cond padding (cond right 0 16) 21
+    → opened_number (demand padding (refused (by 21)) (demand right (refused (by 16)) (cond first (opened 1 t) (opened 2 u)))) ≡ cond padding (cond right 0 16) 21
 by_numbers false right first t u = refl
 by_numbers true false first t u = refl
 by_numbers true true true t u = refl
@@ -103,8 +104,8 @@ module _ (file t : List ℕ) (one two room : ℕ) (good_one : is_cell_key one �
   -- a file that was enciphered under some key passes what is asked first
   first_passed : (key : ℕ) → t ≡ enciphered key (padded_file file) → length file ≤ most
       → opened_file t one two (crc32_of file) room
-      ≡ demand (gives_padding one t || gives_padding two t) (refused 21)
-      (demand (is_right_key (crc32_of file) one t || is_right_key (crc32_of file) two t) (refused 16)
+      ≡ demand (gives_padding one t || gives_padding two t) (refused (by 21))
+      (demand (is_right_key (crc32_of file) one t || is_right_key (crc32_of file) two t) (refused (by 16))
       (cond (is_right_key (crc32_of file) one t) (opened 1 (text_under one t)) (opened 2 (text_under two t))))
   first_passed key e fits =
       let size = ap length e ∙ file_length key file in

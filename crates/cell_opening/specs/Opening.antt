@@ -6,6 +6,8 @@ use Rattle.blowfish.specs.Cipher.{decipher_of}
 use Rattle.blocks.specs.Blocks.{each_block}
 use Rattle.forms.specs.Order.{demand}
 use Rattle.forms.specs.Identifiers.{is_cell_key}
+use Rattle.forms.specs.Refusals.{by, number_of}
+use Rattle.forms.specs.declared.refusals.Refusal.{Refusal}
 use Rattle.cell_file.specs.Enciphering.{most, cell_words}
 
 -- the whole blocks of s deciphered
@@ -37,15 +39,15 @@ text_under key file = unpadded_file (deciphered key file)
 unfoldable pub is_right_key : ℕ → ℕ → List ℕ → Bool
 is_right_key crc key file = gives_padding key file && eqb (crc32_of (text_under key file)) crc
 
--- what opening gives: which key was taken, 1 or 2, and the text; or the number of the refusal
+-- what opening gives: which key was taken, 1 or 2, and the text; or the refusal
 pub data Opened : Type 0 where
   opened : ℕ → List ℕ → Opened
-  refused : ℕ → Opened
+  refused : Refusal → Opened
 
 -- the answer's number: 0 for done
 abbrev pub opened_number : Opened → ℕ
 opened_number (opened key t) = 0
-opened_number (refused n) = n
+opened_number (refused r) = number_of r
 
 -- the length is no zero and a multiple of 8
 abbrev pub has_blocks : List ℕ → Bool
@@ -54,9 +56,9 @@ has_blocks file = leb 1 (length file) && eqb (length file % 8) 0
 -- opening a file by two keys and the CRC-32 of what was enciphered: the first key that is right is taken
 unfoldable pub opened_file : List ℕ → ℕ → ℕ → ℕ → ℕ → Opened
 opened_file file one two crc room =
-    demand (is_cell_key one && is_cell_key two && leb (length file) (most + 8)) (refused 103)
-    (demand (leb (length file) room) (refused 108)
-    (demand (has_blocks file) (refused 12)
-    (demand (gives_padding one file || gives_padding two file) (refused 21)
-    (demand (is_right_key crc one file || is_right_key crc two file) (refused 16)
+    demand (is_cell_key one && is_cell_key two && leb (length file) (most + 8)) (refused (by 103))
+    (demand (leb (length file) room) (refused (by 108))
+    (demand (has_blocks file) (refused (by 12))
+    (demand (gives_padding one file || gives_padding two file) (refused (by 21))
+    (demand (is_right_key crc one file || is_right_key crc two file) (refused (by 16))
     (cond (is_right_key crc one file) (opened 1 (text_under one file)) (opened 2 (text_under two file)))))))

@@ -14,9 +14,10 @@ use Rattle.text.specs.Texts.{part, all_at}
 use Rattle.text.proofs.Raising.{same_hex, same_number, same_part, same_length}
 use Rattle.text.proofs.TextsAt.{part_join, part_of_part, same_within}
 use Rattle.forms.specs.DateText.{is_date_at}
+use Rattle.forms.specs.Identifiers.{raised_hw_id}
 use Rattle.forms.proofs.HwIds.{same_form}
 use Rattle.cell_permit.specs.CellPermit.{ship_words, written_line}
-use Rattle.cell_permit.specs.Line.{is_permit, edition_length, is_tail, is_line, permit_parts, field_parts, parts_of, comment_of, comment_at, comment_start, checked, read_with, given_number, read_line}
+use Rattle.cell_permit.specs.Line.{is_permit, edition_length, is_tail, is_line, permit_parts, field_parts, parts_of, comment_of, comment_at, comment_start, checked, read_with, given_answer, read_line}
 use Rattle.cell_permit.specs.EitherCase.{CaseAlone, ShipEitherCase, ReadEitherCase, LineEitherCase, CommentEitherCase, WrittenEitherCase}
 
 -- a line is its first 16 bytes, the next 48 and the rest
@@ -131,15 +132,19 @@ pub read_either_case : ReadEitherCase
 unfolding read_with checked
 read_either_case words today days s t alone = rw (line_same s t alone, parts_same s t alone, unchecked_same s t alone)
 
+given_same : (hw k today days : ℕ) → raised_hw_id hw ≡ raised_hw_id k → given_answer hw today days ≡ given_answer k today days
+unfolding given_answer
+given_same hw k today days same = rw (same_form hw k same)
+
 pub ship_either_case : ShipEitherCase
-unfolding ship_words given_number
-ship_either_case hw k same = (rw same, λ today days. rw (same_form hw k same))
+unfolding ship_words
+ship_either_case hw k same = (rw same, λ today days. rw (given_same hw k today days same))
 
 pub line_either_case : LineEitherCase
 unfolding read_line
 line_either_case hw k today days s t same alone =
     let ship = ship_either_case hw k same in
-    rw (ship.0, ship.1 today days, read_either_case (ship_words k) today days s t alone)
+    rw (ship.0, given_same hw k today days same, read_either_case (ship_words k) today days s t alone)
 
 pub comment_either_case : CommentEitherCase
 unfolding comment_of comment_at comment_start

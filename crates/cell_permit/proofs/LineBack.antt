@@ -19,8 +19,9 @@ use Rattle.text.proofs.Raising.{digits_stay, names_stay, written_stays}
 use Rattle.blowfish.specs.Cipher.{encipher_of}
 use Rattle.forms.specs.Identifiers.{is_hw_id}
 use Rattle.forms.proofs.Fits.{text_all}
+use Rattle.forms.proofs.Numbered.{none_refused}
 use Rattle.cell_permit.specs.CellPermit.{comma, key_part, unchecked, check_of, cell_permit, fields, line_of, ship_words, written_line}
-use Rattle.cell_permit.specs.Line.{is_line, parts_of, checked, read_with, given_number, read_line}
+use Rattle.cell_permit.specs.Line.{is_line, parts_of, checked, read_with, given_answer, given_number, read_line}
 use Rattle.cell_permit.specs.LineFields.{LineFields, permit_text, line_text, HexPart, AreFields, parts_for}
 use Rattle.cell_permit.specs.ReadBack.{record_for, LineReadsBack}
 use Rattle.cell_permit.specs.declared.Cell.{Cell}
@@ -122,7 +123,7 @@ module _ (words : List ℕ) (cell : Cell) (good : Good cell) where
         rw (is_line_lem, parts, eq-eqb _ _ check-back, key-number cell.key1, key-number cell.key2, key_back words good-words cell.key1 good.key1, key_back words good-words cell.key2 good.key2)
 
 given_hw : (hw today days : ℕ) → given_number hw today days ≡ 0 → is_hw_id hw ≡ true
-unfolding given_number
+unfolding given_answer
 given_hw hw today days given =
     either (is_hw_id hw) (λ good. good) (λ bad. let wrong : ◌≡◌ {A = ℕ} 18 0 = rw bad at given in absurd (omega arith))
 
@@ -134,6 +135,6 @@ line_reads_back hw today days room cell test given fits =
       rw (le-leb 76 room fits, test, given_hw hw today days given),
       (
         omega (arith, line_size words cell, edition_few cell good),
-        rw given (read_back words cell good (ship_words_lem hw) today days),
+        rw (none_refused (given_answer hw today days) given) (read_back words cell good (ship_words_lem hw) today days),
       ),
     )

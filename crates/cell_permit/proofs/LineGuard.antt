@@ -1,6 +1,6 @@
 -- An accepted line with one of its permit's characters changed by more than its case, or in its name or expiry at all, is refused: the check part is the
 -- enciphered CRC-32 of the first 48 characters, letters raised, and each step from these to the check part is one-to-one. Assumes nothing.
-use Rattle.std.specs.Prelude.{Result}
+use Rattle.std.specs.Prelude.{Result, ⊤}
 use mathlib.Core.Path.{◌≡◌, refl, sym, ap, ◌∙◌}
 use mathlib.Core.Bool.{Bool, true, false, false≢true}
 use mathlib.Core.List.{List}
@@ -21,25 +21,25 @@ use Rattle.text.proofs.TextsAt.{all_within, all_there, all_byte}
 use Rattle.crc32.specs.OneChange.{DifferAt}
 use Rattle.crc32.proofs.OneChange.{one_change}
 use Rattle.forms.specs.Order.{demand}
-use Rattle.forms.specs.Refusals.{refused}
+use Rattle.forms.specs.Refusals.{by, refused}
 use Rattle.forms.specs.declared.refusals.Refusal.{Refusal}
 use Rattle.forms.proofs.DateTexts.{date_tests}
-use Rattle.forms.proofs.Demands.{demanded, passed}
+use Rattle.forms.proofs.Demands.{demanded, passed, unless_refused, unless_passed}
 use Rattle.forms.proofs.OnePlace.{part_before, part-after, part-differs, raised_differ}
 use Rattle.cell_permit.specs.CellPermit.{ship_words, check_of}
-use Rattle.cell_permit.specs.Line.{is_line, permit_parts, parts_of, key_under, record_of, checked, read_with, given_number, read_line}
+use Rattle.cell_permit.specs.Line.{is_line, permit_parts, parts_of, key_under, record_of, checked, read_with, given_answer, read_line}
 use Rattle.cell_permit.specs.OneCharacter.{is_accepted, LineGuarded}
 use Rattle.cell_permit.specs.declared.Record.{Record}
 use Rattle.cell_permit.proofs.GoodLine.{good_line}
 use Rattle.cell_permit.proofs.ShipCipher.{ship_words_lem, same_crc}
 
-module _ (n : ℕ) (test : Bool) (next : Result Record Refusal) where
+module _ (r : Refusal) (test : Bool) (next : Result Record Refusal) where
   -- what is accepted passed each test, and what fails a test is refused
-  not_refused : is_accepted (demand test (refused n) next) ≡ true → (test ≡ true) × (is_accepted next ≡ true)
-  not_refused = passed (λ (l : Result Record Refusal). is_accepted l ≡ true) test (refused n) next false≢true
+  not_refused : is_accepted (demand test (refused r) next) ≡ true → (test ≡ true) × (is_accepted next ≡ true)
+  not_refused = passed (λ (l : Result Record Refusal). is_accepted l ≡ true) test (refused r) next false≢true
 
-  refused_after : (test ≡ true → is_accepted next ≡ false) → is_accepted (demand test (refused n) next) ≡ false
-  refused_after = demanded (λ (l : Result Record Refusal). is_accepted l ≡ false) test (refused n) next refl
+  refused_after : (test ≡ true → is_accepted next ≡ false) → is_accepted (demand test (refused r) next) ≡ false
+  refused_after = demanded (λ (l : Result Record Refusal). is_accepted l ≡ false) test (refused r) next refl
 
 -- the check part is 16 hex characters within the line
 module _ (s : List ℕ) (line : is_line s ≡ true) where
@@ -103,19 +103,19 @@ module _ (words : List ℕ) (good : Below (2 ^ 32) words) (i : ℕ) (s t : List 
 pub line_guarded : LineGuarded
 unfolding read_line read_with checked parts_of permit_parts
 line_guarded hw today days i s t bs bt small d later accepted =
-    refused_after g (eqb g 0) (read_with words today days t)
-    (λ _. refused_after 12 (is_line t) (checked words today days t (parts_of t))
-    (λ t-line. refused_after 13 (right t) (record_for t)
+    unless_refused (λ (l : Result Record Refusal). is_accepted l ≡ false) given refused (read_with words today days t) (λ r first. refl)
+    (λ _. refused_after (by 12) (is_line t) (checked words today days t (parts_of t))
+    (λ t-line. refused_after (by 13) (right t) (record_for t)
     (λ t-right. absurd
     (not_both words (ship_words_lem hw) i s t bs bt small d later with-given.0 t-line
-    (eqb-true _ _ (not_refused 13 (right s) (record_for s) with-given.1).0)
+    (eqb-true _ _ (not_refused (by 13) (right s) (record_for s) with-given.1).0)
     (eqb-true _ _ t-right)))))
   where
     words : List ℕ
     words = ship_words hw
 
-    g : ℕ
-    g = given_number hw today days
+    given : Result ⊤ Refusal
+    given = given_answer hw today days
 
     right : List ℕ → Bool
     right l = eqb (hex_number (part 16 l 48)) (check_of words (raised_text (part 48 l 0)))
@@ -125,5 +125,5 @@ line_guarded hw today days i s t bs bt small d later accepted =
 
     with-given : (is_line s ≡ true) × (is_accepted (checked words today days s (parts_of s)) ≡ true)
     with-given =
-        not_refused 12 (is_line s) (checked words today days s (parts_of s))
-        (not_refused g (eqb g 0) (read_with words today days s) accepted).1
+        not_refused (by 12) (is_line s) (checked words today days s (parts_of s))
+        (unless_passed (λ (l : Result Record Refusal). is_accepted l ≡ true) given refused (read_with words today days s) (λ r. false≢true) accepted).1

@@ -13,7 +13,7 @@ use Rattle.dates.specs.Notice.{notice_number}
 use Rattle.dates.specs.declared.Notice.{Notice}
 use Rattle.dates.specs.declared.Notice.TheVariants.{Current, Soon, Expired}
 use Rattle.forms.proofs.Demands.{demanded}
-use Rattle.forms.specs.Refusals.{refused}
+use Rattle.forms.specs.Refusals.{by, refused}
 use Rattle.forms.specs.declared.refusals.Refusal.{Refusal}
 use Rattle.cell_permit.specs.CellPermit.{check_of}
 use Rattle.cell_permit.specs.Line.{is_line, parts_of, notice_for, record_of, key_under, checked, read_with, line_number}
@@ -37,8 +37,8 @@ two_digits words today days line =
     let p = parts_of line in
     let one = key_under words p.permit.block1 in
     let two = key_under words p.permit.block2 in
-    demanded P (is_line line) (refused 12) (checked words today days line p) (omega arith)
-    (λ shaped. demanded P (eqb p.permit.check (check_of words (raised_text (part 48 line 0)))) (refused 13) (record_of today days p one two) (omega arith)
+    demanded P (is_line line) (refused (by 12)) (checked words today days line p) (omega arith)
+    (λ shaped. demanded P (eqb p.permit.check (check_of words (raised_text (part 48 line 0)))) (refused (by 13)) (record_of today days p one two) (omega arith)
     (λ right. record_short today days p one two))
   where
     P : Result Record Refusal → Type 0
@@ -62,7 +62,7 @@ shape_no_12 words today days line shaped =
     let one = key_under words p.permit.block1 in
     let two = key_under words p.permit.block2 in
     rw shaped
-    (demanded P (eqb p.permit.check (check_of words (raised_text (part 48 line 0)))) (refused 13) (record_of today days p one two) (λ is. omega arith)
+    (demanded P (eqb p.permit.check (check_of words (raised_text (part 48 line 0)))) (refused (by 13)) (record_of today days p one two) (λ is. omega arith)
     (λ right. record_no_12 today days p one two))
   where
     P : Result Record Refusal → Type 0

@@ -1,6 +1,6 @@
 -- A record's notice is that of its own level and expiry, so only level 0 is warned; and what refuses a line of good shape stands in its permit.
 -- Assumes nothing.
-use Rattle.std.specs.Prelude.{Option, Some, None, Result, Ok, Err}
+use Rattle.std.specs.Prelude.{Option, Some, None, Result, Ok, Err, ⊤}
 use mathlib.Core.Path.{◌≡◌, refl, sym, ap, ◌∙◌}
 use mathlib.Core.Bool.{Bool, true, false, false≢true}
 use mathlib.Core.List.{List}
@@ -10,16 +10,15 @@ use lib.Dec.{eqb}
 use Rattle.text.specs.Characters.{raised_text}
 use Rattle.text.specs.Texts.{part}
 use Rattle.text.proofs.TextsAt.{same_within}
-use Rattle.dates.specs.Calendar.{is_date}
-use Rattle.dates.specs.Notice.{days_left, is_days, notice_of, notice_number}
+use Rattle.dates.specs.Notice.{days_left, notice_of, notice_number}
 use Rattle.dates.proofs.Levels.{subscription, no_subscription, not_current}
-use Rattle.forms.specs.Identifiers.{is_hw_id}
 use Rattle.forms.specs.Order.{demand}
-use Rattle.forms.specs.Refusals.{number_of, refusal_of, refused, refusal_number}
+use Rattle.forms.specs.Refusals.{by, number_of, refused, refusal_number, unless}
 use Rattle.forms.specs.declared.refusals.Refusal.{Refusal}
-use Rattle.forms.proofs.Demands.{demanded}
+use Rattle.forms.specs.declared.refusals.Refusal.TheVariants.{NoLine, Shape, Check, Today, FileCrc, PermitCrc, HwId, Padding, Book, Tenant, Value, NotHeld, Quota, UserPermit, MId, Room, Register, TwoRows, Branch, Expiry}
+use Rattle.forms.proofs.Demands.{demanded, unless_refused}
 use Rattle.cell_permit.specs.CellPermit.{ship_words, check_of}
-use Rattle.cell_permit.specs.Line.{is_line, permit_parts, parts_of, record_of, key_under, checked, read_with, given_number, read_line, line_number}
+use Rattle.cell_permit.specs.Line.{is_line, permit_parts, parts_of, record_of, key_under, checked, read_with, given_answer, read_line, line_number}
 use Rattle.cell_permit.specs.ServiceLevel.{OwnNotice, is_warning, WarnsLevel0Alone, SinglesAreCurrent, SubscriptionsAsBefore, LevelsRefusedAlike}
 use Rattle.cell_permit.specs.declared.Parts.{Parts}
 use Rattle.cell_permit.specs.declared.Record.{Record}
@@ -44,8 +43,8 @@ module _ (today days : ℕ) (s : List ℕ) where
   answered_with : (words : List ℕ) → Answered today days s (read_with words today days s)
   unfolding read_with checked
   answered_with words =
-      demanded (Answered today days s) (is_line s) (refused 12) (checked words today days s p) refl
-      (λ shaped. demanded (Answered today days s) (eqb p.permit.check (check_of words (raised_text (part 48 s 0)))) (refused 13) (record_of today days p one two) refl
+      demanded (Answered today days s) (is_line s) (refused (by 12)) (checked words today days s p) refl
+      (λ shaped. demanded (Answered today days s) (eqb p.permit.check (check_of words (raised_text (part 48 s 0)))) (refused (by 13)) (record_of today days p one two) refl
       (λ right. record_answered shaped one two))
     where
       p : Parts
@@ -62,19 +61,33 @@ own_notice words today days s r here =
     let read : ReadFrom today days s r = rw here at (answered_with today days s words) in
     read.notice
 
-given_no_warning : (hw today days : ℕ) → is_warning (number_of (refusal_of (given_number hw today days))) ≡ false
-unfolding given_number
-given_no_warning hw today days =
-    demanded P (is_hw_id hw) 18 _ refl (λ ship. demanded P (is_date today) 14 _ refl (λ date. demanded P (is_days days) 103 0 refl (λ good. refl)))
-  where
-    P : ℕ → Type 0
-    P n = is_warning (number_of (refusal_of n)) ≡ false
+refusal_no_warning : (r : Refusal) → is_warning (number_of r) ≡ false
+refusal_no_warning NoLine = refl
+refusal_no_warning Shape = refl
+refusal_no_warning Check = refl
+refusal_no_warning Today = refl
+refusal_no_warning FileCrc = refl
+refusal_no_warning PermitCrc = refl
+refusal_no_warning HwId = refl
+refusal_no_warning Padding = refl
+refusal_no_warning Book = refl
+refusal_no_warning Tenant = refl
+refusal_no_warning Value = refl
+refusal_no_warning NotHeld = refl
+refusal_no_warning Quota = refl
+refusal_no_warning UserPermit = refl
+refusal_no_warning MId = refl
+refusal_no_warning Room = refl
+refusal_no_warning Register = refl
+refusal_no_warning TwoRows = refl
+refusal_no_warning Branch = refl
+refusal_no_warning Expiry = refl
 
 answered : (hw today days : ℕ) (s : List ℕ) → Answered today days s (read_line hw today days s)
 unfolding read_line
 answered hw today days s =
-    let g = given_number hw today days in
-    demanded (Answered today days s) (eqb g 0) (refused g) (read_with (ship_words hw) today days s) (given_no_warning hw today days)
+    unless_refused (Answered today days s) (given_answer hw today days) refused (read_with (ship_words hw) today days s)
+    (λ r first. refusal_no_warning r)
     (λ good. answered_with today days s (ship_words hw))
 
 level_0_alone : (today days : ℕ) (s : List ℕ) (a : Result Record Refusal) → Answered today days s a → is_warning (line_number a) ≡ true
@@ -106,6 +119,11 @@ alike_after : (test : Bool) (r a b : Result Record Refusal) → refusal_number a
 alike_after true r a b same = same
 alike_after false r a b same = refl
 
+alike_unless : (first : Result ⊤ Refusal) (a b : Result Record Refusal) → refusal_number a ≡ refusal_number b
+    → refusal_number (unless first refused a) ≡ refusal_number (unless first refused b)
+alike_unless (Ok tt) a b same = same
+alike_unless (Err r) a b same = refl
+
 -- a check and two keys are refused alike, whatever the other parts are
 module _ (today days : ℕ) (p q : Parts) where
   keys_alike : (one two : Option ℕ) → refusal_number (record_of today days p one two) ≡ refusal_number (record_of today days q one two)
@@ -114,10 +132,10 @@ module _ (today days : ℕ) (p q : Parts) where
   keys_alike None two = refl
 
   permit_alike : (test other : Bool) (one two k1 k2 : Option ℕ) → test ≡ other → one ≡ k1 → two ≡ k2
-      → refusal_number (demand test (refused 13) (record_of today days p one two)) ≡ refusal_number (demand other (refused 13) (record_of today days q k1 k2))
+      → refusal_number (demand test (refused (by 13)) (record_of today days p one two)) ≡ refusal_number (demand other (refused (by 13)) (record_of today days q k1 k2))
   permit_alike test other one two k1 k2 same first second =
       rw (same, first, second)
-      (alike_after other (refused 13) (record_of today days p k1 k2) (record_of today days q k1 k2) (keys_alike k1 k2))
+      (alike_after other (refused (by 13)) (record_of today days p k1 k2) (record_of today days q k1 k2) (keys_alike k1 k2))
 
 module _ (words : List ℕ) (today days : ℕ) (s t : List ℕ) (same : part 64 s 0 ≡ part 64 t 0) where
   check_same : eqb (parts_of s).permit.check (check_of words (raised_text (part 48 s 0))) ≡ eqb (parts_of t).permit.check (check_of words (raised_text (part 48 t 0)))
@@ -141,6 +159,5 @@ unfolding read_line read_with
 levels_refused_alike hw today days s t s-line t-line same =
     let words = ship_words hw in
     rw (s-line, t-line)
-    (alike_after (eqb (given_number hw today days) 0) (refused (given_number hw today days))
-    (checked words today days s (parts_of s)) (checked words today days t (parts_of t))
+    (alike_unless (given_answer hw today days) (checked words today days s (parts_of s)) (checked words today days t (parts_of t))
     (checked_alike words today days s t same))

@@ -11,6 +11,7 @@ use Rattle.text.proofs.Notations.{hex, decimal}
 use Rattle.text.proofs.Raising.{digits_stay, names_stay, written_stays}
 use Rattle.forms.specs.Identifiers.{is_hw_id}
 use Rattle.forms.specs.Output.{InCapitals, refusal, text}
+use Rattle.forms.specs.Refusals.{by}
 use Rattle.forms.proofs.Demands.{demanded}
 use Rattle.forms.proofs.Fits.{text_all}
 use Rattle.cell_permit.specs.CellPermit.{check_of, unchecked, cell_permit, fields, line_of, line_end, is_cell, ship_words, written_line}
@@ -39,7 +40,7 @@ line_stays words cell good =
 pub written_in_capitals : WrittenInCapitals
 unfolding written_line
 written_in_capitals hw room cell =
-    demanded InCapitals (leb 76 room) (refusal 108) _ refl
-    (λ _. demanded InCapitals (is_cell cell) (refusal 103) _ refl
-    (λ good. demanded InCapitals (is_hw_id hw) (refusal 18) (text (line_of (ship_words hw) cell ++ line_end)) refl
+    demanded InCapitals (leb 76 room) (refusal (by 108)) _ refl
+    (λ _. demanded InCapitals (is_cell cell) (refusal (by 103)) _ refl
+    (λ good. demanded InCapitals (is_hw_id hw) (refusal (by 18)) (text (line_of (ship_words hw) cell ++ line_end)) refl
     (λ _. line_stays (ship_words hw) cell (good_cell cell good))))

@@ -12,6 +12,7 @@ use Rattle.blowfish.specs.Schedule.{schedule}
 use Rattle.forms.specs.Order.{demand}
 use Rattle.forms.specs.Identifiers.{is_hw_id, raised_hw_id, is_cell_name, is_cell_key, is_server_id, hw_id6}
 use Rattle.forms.specs.Output.{Output, text, refusal}
+use Rattle.forms.specs.Refusals.{by}
 use Rattle.cell_permit.specs.declared.Cell.{Cell}
 
 -- the words of a ship: those of HW_ID6, made of the HW_ID with its letters raised
@@ -61,7 +62,7 @@ is_cell cell =
 -- writing a line, into an output of so many bytes
 unfoldable pub written_line : ℕ → Cell → ℕ → Output
 written_line hw cell room =
-    demand (leb 76 room) (refusal 108)
-    (demand (is_cell cell) (refusal 103)
-    (demand (is_hw_id hw) (refusal 18)
+    demand (leb 76 room) (refusal (by 108))
+    (demand (is_cell cell) (refusal (by 103))
+    (demand (is_hw_id hw) (refusal (by 18))
     (text (line_of (ship_words hw) cell ++ line_end))))

@@ -1,5 +1,5 @@
 -- Reading a line of PERMIT.TXT, given without its CR LF.
-use Rattle.std.specs.Prelude.{Bool, cond, not, ◌&&◌, List, [], ◌∷◌, ℕ, zero, suc, ◌+◌, ◌-◌, leb, eqb, length, get_or, drop, Option, Some, None, Result, Ok, Err}
+use Rattle.std.specs.Prelude.{Bool, cond, not, ◌&&◌, List, [], ◌∷◌, ℕ, zero, suc, ◌+◌, ◌-◌, leb, eqb, length, get_or, drop, Option, Some, None, Result, Ok, Err, ⊤}
 use Rattle.octets.specs.Places.{number_at}
 use Rattle.octets.specs.Padding.{unpad_of}
 use Rattle.text.specs.Ascii.{byte}
@@ -13,7 +13,7 @@ use Rattle.blowfish.specs.Cipher.{decipher_of}
 use Rattle.forms.specs.Order.{demand}
 use Rattle.forms.specs.Identifiers.{is_hw_id}
 use Rattle.forms.specs.DateText.{is_date_at}
-use Rattle.forms.specs.Refusals.{number_of, refused}
+use Rattle.forms.specs.Refusals.{by, number_of, refused, refusal_number, unless}
 use Rattle.forms.specs.declared.refusals.Refusal.{Refusal}
 use Rattle.cell_permit.specs.CellPermit.{ship_words, check_of, comma}
 use Rattle.cell_permit.specs.declared.FieldParts.{FieldParts}
@@ -109,8 +109,8 @@ record_of today days p (Some one) (Some two) =
       server = p.fields.server;
       notice = notice_for today days p.fields.level p.permit.expiry;
     })
-record_of today days p (Some one) None = refused 21
-record_of today days p None two = refused 21
+record_of today days p (Some one) None = refused (by 21)
+record_of today days p None two = refused (by 21)
 
 -- a cell key as it was before it was padded and enciphered
 abbrev pub key_under : List ℕ → ℕ → Option ℕ
@@ -119,22 +119,28 @@ key_under words block = unpad_of 5 (decipher_of words block)
 -- the check part is right for this HW_ID, else 13: enciphered values are compared, and that of the 48 characters is made with their letters raised
 unfoldable pub checked : List ℕ → ℕ → ℕ → List ℕ → Parts → Result Record Refusal
 checked words today days line p =
-    demand (eqb p.permit.check (check_of words (raised_text (part 48 line 0)))) (refused 13)
+    demand (eqb p.permit.check (check_of words (raised_text (part 48 line 0)))) (refused (by 13))
     (record_of today days p (key_under words p.permit.block1) (key_under words p.permit.block2))
 
 -- reading a line under the words of a ship
 unfoldable pub read_with : List ℕ → ℕ → ℕ → List ℕ → Result Record Refusal
-read_with words today days line = demand (is_line line) (refused 12) (checked words today days line (parts_of line))
+read_with words today days line = demand (is_line line) (refused (by 12)) (checked words today days line (parts_of line))
 
--- HW_ID, today and warning days as given: 18, then 14, then 103 for days that are no warning days, else 0
-unfoldable pub given_number : ℕ → ℕ → ℕ → ℕ
-given_number hw today days = demand (is_hw_id hw) 18 (demand (is_date today) 14 (demand (is_days days) 103 0))
+-- HW_ID, today and warning days as given: 18, then 14, then 103 for days that are no warning days
+unfoldable pub given_answer : ℕ → ℕ → ℕ → Result ⊤ Refusal
+given_answer hw today days =
+    demand (is_hw_id hw) (refused (by 18))
+    (demand (is_date today) (refused (by 14))
+    (demand (is_days days) (refused (by 103)) (Ok tt)))
+
+-- the number of that; 0 where nothing is refused
+abbrev pub given_number : ℕ → ℕ → ℕ → ℕ
+given_number hw today days = refusal_number (given_answer hw today days)
 
 -- reading a line
 unfoldable pub read_line : ℕ → ℕ → ℕ → List ℕ → Result Record Refusal
 read_line hw today days line =
-    demand (eqb (given_number hw today days) 0) (refused (given_number hw today days))
-    (read_with (ship_words hw) today days line)
+    unless (given_answer hw today days) refused (read_with (ship_words hw) today days line)
 
 -- the answer's number: a record's is that of its notice
 abbrev pub line_number : Result Record Refusal → ℕ

@@ -5,9 +5,8 @@ ghost use Rattle.std.specs.Prelude.{◌≡◌, ◌≤◌, length, get_or};
 ghost use Rattle.octets.specs.Places.{point_at};
 ghost use Rattle.text.specs.Characters.{raised_text, is_digit};
 ghost use Rattle.text.specs.Texts.{part};
-ghost use Rattle.forms.specs.Refusals.{done_or};
 ghost use Rattle.cell_permit.specs.CellPermit.{ship_words, check_of};
-ghost use Rattle.cell_permit.specs.Line.{comma_at, edition_length, shape_of, comment_of, comment_at, comment_start, key_under, checked, given_number, read_with, read_line, line_number};
+ghost use Rattle.cell_permit.specs.Line.{comma_at, edition_length, shape_of, comment_of, comment_at, comment_start, key_under, checked, given_answer, read_with, read_line, line_number};
 ghost use Rattle.cell_permit.specs.LineParts.{permit_of, is_level_part, is_server_part, fields_of};
 
 use forms::refusals::Refusal;
@@ -281,9 +280,9 @@ pub fn line_number(line: Result<Record, Refusal>) -> u32
 }
 
 // HW_ID, today and warning days, one by one as C gives them: refused with 18, then 14, then 103 for days that are no warning days.
-#[tactic(auto, unfolding(crate::specs::Line::given_number))]
+#[tactic(auto, unfolding(crate::specs::Line::given_answer))]
 pub fn judge_given(hw: u64, today: u32, days: u32) -> Result<(), Refusal>
-    ensures { result ≡ done_or (given_number hw today days) }
+    ensures { result ≡ given_answer hw today days }
 {
     if !forms::identifiers::is_hw_id(hw) {
         return Err(Refusal::HwId);

@@ -11,7 +11,7 @@ use Rattle.std.specs.Prelude.{Result, Ok, Err}
 use Rattle.dates.specs.Notice.{is_days}
 use Rattle.forms.specs.Order.{demand}
 use Rattle.forms.specs.Identifiers.{is_cell_name}
-use Rattle.forms.specs.Refusals.{refused}
+use Rattle.forms.specs.Refusals.{by, refused}
 use Rattle.forms.specs.declared.refusals.Refusal.{Refusal}
 use Rattle.tenants.specs.declared.Held.{Held}
 use Rattle.tenants.specs.Cells.{cell_of}
@@ -21,23 +21,23 @@ use Rattle.judging.specs.declared.Records.{Records}
 use Rattle.changing.specs.Changing.{records_in, admitted, entry, withdrawal, new_days, bytes_after}
 use Rattle.changing.specs.House.{house_answer}
 
--- a call that does a change, and answers what is answered to it: the house or, by the number, a tenant
+-- a call that does a change, and answers what is answered to it: the house, or a tenant
 abbrev pub Does : {A : Type 0} → (Change → A) → ℕ → List ℕ → Change → A → List ℕ → Type 0
 Does answer t s change r after = (r ≡ answer change) × (after ≡ bytes_after t change s)
 
 module _ {A : Type 0} (answer : Change → A) (t : ℕ) (s : List ℕ) (change : Change) where
   -- a refusal is answered and leaves the bytes
-  pub refused_so : (n : ℕ) → change ≡ refuses n → Does answer t s change (answer (refuses n)) s
-  refused_so n e = (ap answer (sym e), ap (λ (c : Change). bytes_after t c s) (sym e))
+  pub refused_so : (r : Refusal) → change ≡ refuses r → Does answer t s change (answer (refuses r)) s
+  refused_so r e = (ap answer (sym e), ap (λ (c : Change). bytes_after t c s) (sym e))
 
   -- what does one change does an equal one
   pub does_same : (same : Change) (r : A) (after : List ℕ) → change ≡ same → Does answer t s same r after → Does answer t s change r after
   does_same same r after e does = rw e does
 
 -- four tests in the order of what enter and withdraw are refused with
-module _ {A : Type 0} (f : ℕ → A) (a b c d : Bool) (next : A) where
+module _ {A : Type 0} (f : Refusal → A) (a b c d : Bool) (next : A) where
   abbrev pub in_order : A
-  in_order = demand a (f 101) (demand b (f 102) (demand c (f 103) (demand d (f 111) next)))
+  in_order = demand a (f (by 101)) (demand b (f (by 102)) (demand c (f (by 103)) (demand d (f (by 111)) next)))
 
 same_refusal : (x r : Refusal) → ◌≡◌ {A = Result Records Refusal} (Err x) (Err r) → ◌≡◌ {A = Result ℕ Refusal} (Err r) (Err x)
 same_refusal x r e = cc
@@ -92,13 +92,13 @@ module _ (s : List ℕ) (t : ℕ) (cell : Held) where
 
     module _ (tenant : is_tenant t ≡ true) where
       module _ (fit : is_held cell ≡ true) where
-        pub entry-branch : names_none (own_in s t).setting ≡ false → entry s t cell ≡ refuses 111
+        pub entry-branch : names_none (own_in s t).setting ≡ false → entry s t cell ≡ refuses (by 111)
         unfolding entry entering
         entry-branch branch = rw (undamaged, tenant, fit, branch)
 
         module _ (keeps : names_none (own_in s t).setting ≡ true) where
           pub entry-full : cell_of cell.name (own_in s t).cells ≡ none → (own_in s t).setting.quota ≤ length (own_in s t).cells
-              → entry s t cell ≡ refuses 105
+              → entry s t cell ≡ refuses (by 105)
           unfolding entry entering
           entry-full absent full = rw (undamaged, tenant, fit, keeps, absent, le-ltb _ _ full)
 
@@ -121,12 +121,12 @@ module _ (s : List ℕ) (t name : ℕ) where
   module _ (undamaged : is_book s ≡ true) where
     module _ (tenant : is_tenant t ≡ true) where
       module _ (fit : is_cell_name name ≡ true) where
-        pub withdrawal-branch : names_none (own_in s t).setting ≡ false → withdrawal s t name ≡ refuses 111
+        pub withdrawal-branch : names_none (own_in s t).setting ≡ false → withdrawal s t name ≡ refuses (by 111)
         unfolding withdrawal withdrawing
         withdrawal-branch branch = rw (undamaged, tenant, fit, branch)
 
         module _ (keeps : names_none (own_in s t).setting ≡ true) where
-          pub withdrawal-absent : cell_of name (own_in s t).cells ≡ none → withdrawal s t name ≡ refuses 104
+          pub withdrawal-absent : cell_of name (own_in s t).cells ≡ none → withdrawal s t name ≡ refuses (by 104)
           unfolding withdrawal withdrawing
           withdrawal-absent absent = rw (undamaged, tenant, fit, keeps, absent)
 

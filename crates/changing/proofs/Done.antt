@@ -6,14 +6,13 @@ use mathlib.Core.List.{List}
 use Prim.Native.Nat.{ℕ, ◌+◌, ◌-◌, ◌≤◌, ◌<◌}
 use native.Mathlib.Omega.{arith}
 use lib.ListN.{length, set}
-use Rattle.std.specs.Prelude.{Result, Ok, ⊤}
+use Rattle.std.specs.Prelude.{Ok}
 use Rattle.dates.specs.Notice.{is_days}
 use Rattle.forms.specs.Identifiers.{is_cell_name}
-use Rattle.forms.specs.Refusals.{refused, done_or}
-use Rattle.forms.specs.declared.refusals.Refusal.{Refusal}
+use Rattle.forms.specs.Refusals.{by, refused}
 use Rattle.tenants.specs.declared.Held.{Held}
 use Rattle.tenants.specs.declared.Setting.{Setting}
-use Rattle.tenants.specs.Rules.{Change, enters, withdraws, sets, change_number, is_held, names_none}
+use Rattle.tenants.specs.Rules.{enters, withdraws, sets, change_answer, is_held, names_none}
 use Rattle.tenants.specs.Calls.{enter}
 use Rattle.tenants.specs.Together.{in_book, own_of, changed, is_good}
 use Rattle.tenants.specs.House.{later_in, moved_by}
@@ -53,10 +52,6 @@ use Rattle.changing.proofs.ChangeRules.{
   withdrawal-held,
   days-fit,
 }
-
--- what setting days answers to a change
-abbrev pub day_answer : Change → Result ⊤ Refusal
-day_answer change = done_or (change_number change)
 
 module _ (s : List ℕ) (undamaged : is_book s ≡ true) (t : ℕ) (tenant : t ≤ 15) where
   quota_is : (own_in s t).setting.quota ≡ (setting_at s t).quota
@@ -123,9 +118,9 @@ module _ (s : List ℕ) (undamaged : is_book s ≡ true) (t : ℕ) (tenant : t �
         entered-new =
             does_same (house_answer t s) t s (entry s t cell) (enters cell) _ then enters_it (ap Ok after-it, becomes)
 
-      quota-used : (setting_at s t).quota ≤ length (own_in s t).cells → Does (house_answer t s) t s (entry s t cell) (refused 105) s
+      quota-used : (setting_at s t).quota ≤ length (own_in s t).cells → Does (house_answer t s) t s (entry s t cell) (refused (by 105)) s
       quota-used full =
-          refused_so (house_answer t s) t s (entry s t cell) 105
+          refused_so (house_answer t s) t s (entry s t cell) (by 105)
           (entry-full s t cell undamaged (tenant_is t tenant) fit keeps (finds_none s t cell.name i undamaged (held_below cell fit) found)
           (omega (arith, quota_is)))
 
@@ -141,13 +136,13 @@ module _ (s : List ℕ) (undamaged : is_book s ≡ true) (t : ℕ) (tenant : t �
           pub new_entered : Does (house_answer t s) t s (entry s t cell) (Ok (n - 1 - i)) after
           new_entered = rw (counted, is) (entered-new has_room)
 
-        pub new_refused : x.quota ≤ held → Does (house_answer t s) t s (entry s t cell) (refused 105) s
+        pub new_refused : x.quota ≤ held → Does (house_answer t s) t s (entry s t cell) (refused (by 105)) s
         new_refused full = quota-used (omega (arith, ap (λ (x : Setting). x.quota) read))
 
   module _ (name : ℕ) (fit : is_cell_name name ≡ true) (keeps : names_none (own_in s t).setting ≡ true) (i : ℕ) where
-    pub not_held : searched_for s t name ≡ Absent i → Does (house_answer t s) t s (withdrawal s t name) (refused 104) s
+    pub not_held : searched_for s t name ≡ Absent i → Does (house_answer t s) t s (withdrawal s t name) (refused (by 104)) s
     not_held found =
-        refused_so (house_answer t s) t s (withdrawal s t name) 104
+        refused_so (house_answer t s) t s (withdrawal s t name) (by 104)
         (withdrawal-absent s t name undamaged (tenant_is t tenant) fit keeps (finds_none s t name i undamaged (name_below name fit) found))
 
     pub withdrawn-held : searched_for s t name ≡ At i → Does (house_answer t s) t s (withdrawal s t name) (Ok (record_count s - 1 - i)) (record_removed i s)
@@ -158,9 +153,9 @@ module _ (s : List ℕ) (undamaged : is_book s ≡ true) (t : ℕ) (tenant : t �
         (withdrawal-held s t name undamaged (tenant_is t tenant) fit keeps _ (finds_held s t name i undamaged (name_below name fit) found))
         (ap Ok after-it, removes s t name i undamaged (name_below name fit) (under keeps name ∙ found))
 
-  pub days_set : (days : ℕ) → is_days days ≡ true → Does day_answer t s (new_days s t days) (Ok tt) (set s (setting_place t + 2) days)
+  pub days_set : (days : ℕ) → is_days days ≡ true → Does change_answer t s (new_days s t days) (Ok tt) (set s (setting_place t + 2) days)
   days_set days fit =
-      does_same day_answer t s (new_days s t days) (sets days) (Ok tt) _ (days-fit s t days undamaged (tenant_is t tenant) fit) (
+      does_same change_answer t s (new_days s t days) (sets days) (Ok tt) _ (days-fit s t days undamaged (tenant_is t tenant) fit) (
         refl,
         byte_put (setting_place t + 2) days s (days_below days fit) (omega (arith, (book_frame s undamaged).size))
             ∙ sets_days s undamaged t days (omega arith),
@@ -198,7 +193,7 @@ module _ (s : List ℕ) (t : ℕ) (fits : Bool) (r : Records) (so : admitted s t
     fits_name : is_cell_name name ≡ true
     fits_name = sym same ∙ now.fit
 
-    pub withdraw_absent : searched s r.first r.past name ≡ Absent i → Does (house_answer t s) t s (withdrawal s t name) (refused 104) s
+    pub withdraw_absent : searched s r.first r.past name ≡ Absent i → Does (house_answer t s) t s (withdrawal s t name) (refused (by 104)) s
     withdraw_absent found = not_held s now.undamaged t now.tenant name fits_name now.keeps i (sym (told name) ∙ found)
 
     -- the record is one of those that are counted

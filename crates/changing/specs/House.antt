@@ -17,4 +17,4 @@ house_answer t s (enters cell) = Ok (moved_by t (enters cell) (book_of s))
 house_answer t s (withdraws name) = Ok (moved_by t (withdraws name) (book_of s))
 house_answer t s (sets days) = Ok (moved_by t (sets days) (book_of s))
 house_answer t s nothing = Ok (moved_by t nothing (book_of s))
-house_answer t s (refuses n) = refused n
+house_answer t s (refuses r) = refused r

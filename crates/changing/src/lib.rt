@@ -2,8 +2,7 @@
 #![tactic(auto)]
 
 ghost use Rattle.std.specs.Prelude.{◌≡◌};
-ghost use Rattle.forms.specs.Refusals.{done_or};
-ghost use Rattle.tenants.specs.Rules.{change_number};
+ghost use Rattle.tenants.specs.Rules.{change_answer};
 ghost use Rattle.changing.specs.Changing.{entry, withdrawal, new_days, bytes_after};
 
 use forms::refusals::Refusal;
@@ -14,7 +13,7 @@ pub mod house; // house.rt: enter and withdraw as the house has them, which is a
 
 // Enters a cell, which a branch cannot: a held name is replaced.
 pub fn enter(book: &mut [u8], tenant: u32, cell: Held) -> Result<(), Refusal>
-    ensures { (result ≡ done_or (change_number (entry book.old tenant cell)))
+    ensures { (result ≡ change_answer (entry book.old tenant cell))
         × (book.new ≡ bytes_after tenant (entry book.old tenant cell) book.old) }
 {
     house::enter(book, tenant, cell)?;
@@ -23,7 +22,7 @@ pub fn enter(book: &mut [u8], tenant: u32, cell: Held) -> Result<(), Refusal>
 
 // Withdraws a cell, which a branch cannot.
 pub fn withdraw(book: &mut [u8], tenant: u32, name: u64) -> Result<(), Refusal>
-    ensures { (result ≡ done_or (change_number (withdrawal book.old tenant name)))
+    ensures { (result ≡ change_answer (withdrawal book.old tenant name))
         × (book.new ≡ bytes_after tenant (withdrawal book.old tenant name) book.old) }
 {
     house::withdraw(book, tenant, name)?;
@@ -33,7 +32,7 @@ pub fn withdraw(book: &mut [u8], tenant: u32, name: u64) -> Result<(), Refusal>
 // Sets a tenant's warning days.
 #[tactic(auto, unfolding(crate::specs::Changing::new_days, tenants::specs::Rules::setting_days, tenants::specs::Rules::is_tenant))]
 pub fn set_days(book: &mut [u8], tenant: u32, days: u32) -> Result<(), Refusal>
-    ensures { (result ≡ done_or (change_number (new_days book.old tenant days)))
+    ensures { (result ≡ change_answer (new_days book.old tenant days))
         × (book.new ≡ bytes_after tenant (new_days book.old tenant days) book.old) }
 {
     if !judging::is_book(book) {

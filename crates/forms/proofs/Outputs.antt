@@ -8,7 +8,7 @@ use Rattle.forms.specs.Output.{Output, text, written_of, lent_after, Answered}
 use Rattle.forms.specs.Laws.{RefusalAnswered}
 
 pub refused : RefusalAnswered
-refused o n before e = (sym (ap written_of e), sym (ap (λ (x : Output). lent_after x before) e))
+refused o r before e = (sym (ap written_of e), sym (ap (λ (x : Output). lent_after x before) e))
 
 pub wrote : (o : Output) (t : List ℕ) (n : ℕ) (before after : List ℕ) → o ≡ text t → length t ≡ n → after ≡ t ++ drop n before
     → Answered o before (Ok n) after

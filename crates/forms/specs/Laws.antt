@@ -7,6 +7,7 @@ use Rattle.forms.specs.Identifiers.{is_text, is_hw_id, is_upper_hw_id, raised_hw
 use Rattle.forms.specs.Output.{Output, refusal, Answered}
 use Rattle.forms.specs.DateText.{is_date_at, date_at}
 use Rattle.forms.specs.Refusals.{refused}
+use Rattle.forms.specs.declared.refusals.Refusal.{Refusal}
 
 -- the number of a text of n bytes is below 256 ^ n
 abbrev pub TextFits : Type 0
@@ -26,7 +27,7 @@ NameAt = (n : ℕ) (s : List ℕ) (at : ℕ) → all_at is_name_character n s at
 
 -- a call that gives a refusal answers its number and leaves the lent output as it was
 abbrev pub RefusalAnswered : Type 0
-RefusalAnswered = (o : Output) (n : ℕ) (before : List ℕ) → o ≡ refusal n → Answered o before (refused n) before
+RefusalAnswered = (o : Output) (r : Refusal) (before : List ℕ) → o ≡ refusal r → Answered o before (refused r) before
 
 -- a date is read only where eight digits are one
 abbrev pub DateRight : Type 0

@@ -5,25 +5,25 @@ use Rattle.text.specs.Characters.{raised_text}
 use Rattle.forms.specs.Refusals.{refused}
 use Rattle.forms.specs.declared.refusals.Refusal.{Refusal}
 
--- a text, or the number of the refusal
+-- a text, or the refusal
 pub data Output : Type 0 where
   text : List ℕ → Output
-  refusal : ℕ → Output
+  refusal : Refusal → Output
 
 -- the answer: the text's length, or the refusal
 abbrev pub written_of : Output → Result ℕ Refusal
 written_of (text t) = Ok (length t)
-written_of (refusal n) = refused n
+written_of (refusal r) = refused r
 
 -- the lent output afterwards: the text at its start and nothing else, or as it was
 abbrev pub lent_after : Output → List ℕ → List ℕ
 lent_after (text t) out = t ++ drop (length t) out
-lent_after (refusal n) out = out
+lent_after (refusal r) out = out
 
 -- the bytes that are written: none where it is refused
 abbrev pub bytes_written : Output → List ℕ
 bytes_written (text t) = t
-bytes_written (refusal n) = []
+bytes_written (refusal r) = []
 
 -- what is written has no small letter: raised, it is the same
 abbrev pub InCapitals : Output → Type 0

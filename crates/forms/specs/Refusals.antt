@@ -1,5 +1,5 @@
 -- The refusals, by the numbers of the rules.
-use Rattle.std.specs.Prelude.{◌≡◌, cond, ℕ, List, [], ◌∷◌, eqb, Result, Ok, Err, ⊤}
+use Rattle.std.specs.Prelude.{◌≡◌, cond, ℕ, List, [], ◌∷◌, eqb, Option, None, Some, Result, Ok, Err, ⊤}
 use Rattle.forms.specs.declared.refusals.Refusal.{Refusal}
 use Rattle.forms.specs.declared.refusals.Refusal.TheVariants.{NoLine, Shape, Check, Today, FileCrc, PermitCrc, HwId, Padding, Book, Tenant, Value, NotHeld, Quota, UserPermit, MId, Room, Register, TwoRows, Branch, Expiry}
 
@@ -51,29 +51,53 @@ refusals =
     ∷ Expiry
     ∷ []
 
--- the one of some refusals that has a number; 103 where none has
-abbrev pub refusal_among : List Refusal → ℕ → Refusal
-refusal_among [] n = Value
-refusal_among (r ∷ more) n = cond (eqb (number_of r) n) r (refusal_among more n)
+-- the one of some refusals that has a number, if one has it
+abbrev pub refusal_among : List Refusal → ℕ → Option Refusal
+refusal_among [] n = None
+refusal_among (r ∷ more) n = cond (eqb (number_of r) n) (Some r) (refusal_among more n)
 
--- the refusal of a number
-abbrev pub refusal_of : ℕ → Refusal
+-- the refusal of a number, if it is one of the rules'
+abbrev pub refusal_of : ℕ → Option Refusal
 refusal_of n = refusal_among refusals n
 
+-- a refusal where there is one; else nothing that a call could answer
+abbrev pub Found : Option Refusal → Type 0
+Found None = ⊤
+Found (Some r) = Refusal
+
+-- that refusal
+abbrev pub found : (o : Option Refusal) → Found o
+found None = tt
+found (Some r) = r
+
+-- refused by a number of the rules, as `refused (by 103)`; a number that they do not have is no refusal, and fits nowhere
+abbrev pub by : (n : ℕ) → Found (refusal_of n)
+by n = found (refusal_of n)
+
 module _ {A : Type 0} where
-  -- refused, with a number of the rules
-  abbrev pub refused : ℕ → Result A Refusal
-  refused n = Err (refusal_of n)
+  -- refused
+  abbrev pub refused : Refusal → Result A Refusal
+  refused r = Err r
 
   -- the number of an answer's refusal; 0 where it is none
   abbrev pub refusal_number : Result A Refusal → ℕ
   refusal_number (Ok x) = 0
   refusal_number (Err r) = number_of r
 
--- done where the number is 0, and else refused with it
-abbrev pub done_or : ℕ → Result ⊤ Refusal
-done_or n = cond (eqb n 0) (Ok tt) (refused n)
+  -- done, or refused as an answer is
+  abbrev pub done_or : Result A Refusal → Result ⊤ Refusal
+  done_or (Ok x) = Ok tt
+  done_or (Err r) = Err r
+
+  -- what comes next where nothing is refused, and else what the refusal gives
+  abbrev pub unless : Result ⊤ Refusal → (Refusal → A) → A → A
+  unless (Ok done) given next = next
+  unless (Err r) given next = given r
 
 -- each refusal is that of its number
 abbrev pub RefusalOfNumber : Type 0
-RefusalOfNumber = (r : Refusal) → refusal_of (number_of r) ≡ r
+RefusalOfNumber = (r : Refusal) → refusal_of (number_of r) ≡ Some r
+
+-- and has the number that it is found by
+abbrev pub NumberOfRefusal : Type 0
+NumberOfRefusal = (n : ℕ) (r : Refusal) → refusal_of n ≡ Some r → number_of r ≡ n

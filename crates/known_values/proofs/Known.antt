@@ -9,7 +9,7 @@ use Rattle.dates.specs.Notice.{days_left, subscription_notice, notice_of}
 use Rattle.dates.proofs.Left.{same_day_lem}
 use Rattle.forms.specs.Identifiers.{is_text, hw_id6}
 use Rattle.user_permit.specs.UserPermit.{m_id_part}
-use Rattle.cell_permit.specs.Line.{given_number}
+use Rattle.cell_permit.specs.Line.{given_answer}
 use Rattle.book.proofs.FirstCell.{first_cell}
 use Rattle.known_values.specs.Rows.{Holds, EachHolds, rows, same_day}
 
@@ -23,7 +23,7 @@ a and b = (a, b)
 
 -- P1 to P12, in the table's order: antt computes all but P5 and P12
 pub known : EachHolds rows
-unfolding year month day is_leap month_lengths days_in within is_date multiples_below days_before_year sum days_before_month day_number days_left subscription_notice notice_of digits value hex_character is_digit raised is_upper_hex is_hex all_of is_text hw_id6 m_id_part given_number
+unfolding year month day is_leap month_lengths days_in within is_date multiples_below days_before_year sum days_before_month day_number days_left subscription_notice notice_of digits value hex_character is_digit raised is_upper_hex is_hex all_of is_text hw_id6 m_id_part given_answer
 known =
     (refl, refl)
     and (refl, refl)

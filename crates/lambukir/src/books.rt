@@ -109,7 +109,7 @@ pub extern "C" fn lambukir_carry_over(book: &[u8], new: &mut [u8]) -> u32
     number(carrying::carry_over(book, new))
 }
 
-#[tactic(auto, using(changing::proofs::Numbers::entry_numbered))]
+#[tactic(auto, using(changing::proofs::Numbers::answer_number))]
 #[unsafe(no_mangle)]
 pub extern "C" fn lambukir_enter(
     book: &mut [u8],
@@ -133,7 +133,7 @@ pub extern "C" fn lambukir_enter(
     number(changing::enter(book, tenant, cell))
 }
 
-#[tactic(auto, using(changing::proofs::Numbers::withdrawal_numbered))]
+#[tactic(auto, using(changing::proofs::Numbers::answer_number))]
 #[unsafe(no_mangle)]
 pub extern "C" fn lambukir_withdraw(book: &mut [u8], tenant: u32, name: u64) -> u32
     ensures { (result ≡ change_number (withdrawal book.old tenant name))
@@ -142,7 +142,7 @@ pub extern "C" fn lambukir_withdraw(book: &mut [u8], tenant: u32, name: u64) -> 
     number(changing::withdraw(book, tenant, name))
 }
 
-#[tactic(auto, using(changing::proofs::Numbers::days_numbered))]
+#[tactic(auto, using(changing::proofs::Numbers::answer_number))]
 #[unsafe(no_mangle)]
 pub extern "C" fn lambukir_set_days(book: &mut [u8], tenant: u32, days: u32) -> u32
     ensures { (result ≡ change_number (new_days book.old tenant days))

@@ -18,6 +18,7 @@ use Rattle.octets.proofs.Every.{either, and_first, and_second}
 use Rattle.text.specs.Ascii.{ascii}
 use Rattle.text.specs.Texts.{placed}
 use Rattle.text.proofs.PlacedTexts.{length-placed, placed_start, placed-next}
+use Rattle.forms.specs.Refusals.{by}
 use Rattle.mending.specs.Putting.{Takes}
 use Rattle.mended_lines.specs.declared.Places.{Places}
 use Rattle.mending.specs.Mending.{Mended, mended_of, is_mended, Outcome, done, refused, mending}
@@ -43,12 +44,12 @@ module _ (file out list : List ℕ) where
   abbrev comes : Outcome
   comes = mending file (length out) (length list)
 
-  pub comes_12 : is_mended file ≡ false → comes ≡ refused 12
+  pub comes_12 : is_mended file ≡ false → comes ≡ refused (by 12)
   unfolding mending
   comes_12 bad = rw bad
 
   module _ (good : is_mended file ≡ true) where
-    pub comes-108 : fits (sizes_of (mended_of file)) (room_of out list) ≡ false → comes ≡ refused 108
+    pub comes-108 : fits (sizes_of (mended_of file)) (room_of out list) ≡ false → comes ≡ refused (by 108)
     unfolding mending fits
     comes-108 long = rw (good, long)
 

@@ -7,7 +7,7 @@ use mathlib.Core.Path.{◌≡◌, refl, sym, ap, fun_ext, ◌∙◌}
 use mathlib.Core.Bool.{true, false}
 use mathlib.Core.List.{List, [], ◌∷◌, ◌++◌, map, append_assoc}
 use Prim.Native.Nat.{ℕ, suc}
-use borrow.Author.Tests.{eq-eqb, ne_eqb, not-true}
+use borrow.Author.Tests.{ne_eqb, not-true}
 use lib.Dec.{eqb}
 use lib.ListN.{drop}
 use Rattle.octets.specs.Every.{all_of, count_of}
@@ -15,8 +15,9 @@ use Rattle.octets.proofs.Every.{either, never_both, all_first, all_rest}
 use Rattle.text.specs.Characters.{raised}
 use Rattle.text.specs.Texts.{same_text, onto}
 use Rattle.text.proofs.SameTexts.{same_true}
+use Rattle.forms.proofs.Numbered.{none_refused}
 use Rattle.cell_permit.specs.CellPermit.{ship_words, line_end}
-use Rattle.cell_permit.specs.Line.{is_line, read_with, given_number, read_line, line_number}
+use Rattle.cell_permit.specs.Line.{is_line, read_with, given_answer, given_number, read_line, line_number}
 use Rattle.cell_permit.proofs.LineNumbers.{shape_no_12}
 use Rattle.file_lines.specs.Lines.{ecs}
 use Rattle.file_lines.specs.EncPart.{lines_of, enc_lines, is_closed}
@@ -139,7 +140,7 @@ none_twelve words today days (l ∷ ls) shaped =
 -- with what is given good, a line is read under the ship's words
 read_good : (hw today days : ℕ) → given_number hw today days ≡ 0 → read_line hw today days ≡ read_with (ship_words hw) today days
 unfolding read_line
-read_good hw today days good = fun_ext (λ line. rw (eq-eqb (given_number hw today days) 0 good))
+read_good hw today days good = fun_ext (λ line. rw (none_refused (given_answer hw today days) good))
 
 pub no_twelve : NoTwelve
 no_twelve hw today days file given good =

@@ -1,6 +1,8 @@
 -- A mailed permit file mended, and the list of what was wrong with it.
 use Rattle.std.specs.Prelude.{Bool, cond, ◌&&◌, List, [], ◌∷◌, ◌++◌, ℕ, suc, leb, length}
 use Rattle.forms.specs.Order.{demand}
+use Rattle.forms.specs.Refusals.{by}
+use Rattle.forms.specs.declared.refusals.Refusal.{Refusal}
 use Rattle.permit_file.specs.File.{is_header}
 use Rattle.mailed_lines.specs.Texts.{texts_of, joined}
 use Rattle.mailed_lines.specs.Mailed.{line_of, unblanked, fate_of}
@@ -52,11 +54,11 @@ is_mended file = is_header (mended_of file).file
 -- both texts, or the refusal
 pub data Outcome : Type 0 where
   done : Mended → Outcome
-  refused : ℕ → Outcome
+  refused : Refusal → Outcome
 
 -- mending into outputs of so many bytes: 12 where the mended file does not begin with a good header, then 108 where a text is longer than its output
 unfoldable pub mending : List ℕ → ℕ → ℕ → Outcome
 mending file room list_room =
-    demand (is_mended file) (refused 12)
-    (demand (leb (length (mended_of file).file) room && leb (length (mended_of file).list) list_room) (refused 108)
+    demand (is_mended file) (refused (by 12))
+    (demand (leb (length (mended_of file).file) room && leb (length (mended_of file).list) list_room) (refused (by 108))
     (done (mended_of file)))

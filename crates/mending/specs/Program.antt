@@ -2,6 +2,7 @@
 use Rattle.std.specs.Prelude.{◌&&◌, List, [], ℕ, leb, length}
 use Rattle.text.specs.Ascii.{ascii}
 use Rattle.forms.specs.Order.{demand}
+use Rattle.forms.specs.Refusals.{by}
 use Rattle.mending.specs.Mending.{Mended, mended_of, is_mended, Outcome, done, refused}
 
 -- a refusal: nothing to standard output
@@ -18,8 +19,8 @@ printed input =
 -- into outputs of so many bytes: 108 where one is too short
 unfoldable pub printing : List ℕ → ℕ → ℕ → Outcome
 printing input room list_room =
-    demand (leb (length (printed input).file) room && leb (length (printed input).list) list_room) (refused 108) (done (printed input))
+    demand (leb (length (printed input).file) room && leb (length (printed input).list) list_room) (refused (by 108)) (done (printed input))
 
 -- a refusal in words, into an output of so many bytes. For contracts inside the crate alone.
 unfoldable pub refusal_printed : List ℕ → ℕ → Outcome
-refusal_printed words room = demand (leb (length words) room) (refused 108) (done (only words))
+refusal_printed words room = demand (leb (length words) room) (refused (by 108)) (done (only words))

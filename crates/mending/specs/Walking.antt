@@ -2,7 +2,7 @@
 use Rattle.std.specs.Prelude.{Bool, true, false, cond, ◌&&◌, ◌≡◌, List, [], ◌∷◌, ◌++◌, Option, Some, None, Result, Ok, ◌⊎◌, ℕ, zero, suc, ◌+◌, ◌-◌, ◌*◌, ◌/◌, ◌^◌, ◌≤◌, ◌<◌, leb, ltb, length, get_or, take, drop}
 use Rattle.text.specs.Texts.{placed}
 use Rattle.cell_permit.specs.Line.{is_line}
-use Rattle.forms.specs.Refusals.{refused}
+use Rattle.forms.specs.Refusals.{by, refused}
 use Rattle.forms.specs.declared.refusals.Refusal.{Refusal}
 use Rattle.file_lines.specs.Texts.{text_ends}
 use Rattle.mailed_lines.specs.Texts.{texts_of}
@@ -130,7 +130,7 @@ fits size room = leb size.file room.file && leb size.list room.list
 
 -- both lengths where they fit in the room, else 108
 unfoldable pub answered : Lengths → Lengths → Result Lengths Refusal
-answered room size = cond (fits size room) (Ok size) (refused 108)
+answered room size = cond (fits size room) (Ok size) (refused (by 108))
 
 -- how long both are, put after these places
 unfoldable pub size_after : Places → Mended → Lengths

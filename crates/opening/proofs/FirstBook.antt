@@ -13,7 +13,7 @@ use Rattle.text.specs.Texts.{placed}
 use Rattle.text.proofs.PlacedTexts.{placed_start, placed-next}
 use Rattle.std.specs.Prelude.{Result, Ok, ⊤}
 use Rattle.forms.specs.Output.{written_of, lent_after}
-use Rattle.forms.specs.Refusals.{refused, refusal_number, done_or}
+use Rattle.forms.specs.Refusals.{by, refused, done_or}
 use Rattle.forms.specs.declared.refusals.Refusal.{Refusal}
 use Rattle.tenants.specs.declared.Setting.{Setting}
 use Rattle.layout.specs.Layout.{two, book_bytes_by, book_size, setting_size, records_place, setting_place, zeros, setting_bytes, all_bytes, book_bytes, each_from}
@@ -87,13 +87,13 @@ module _ (quotas ids principals : List ℕ) where
 
   -- the answer and the book afterwards
   abbrev pub Opened : List ℕ → Result ⊤ Refusal → List ℕ → Type 0
-  Opened s answer after = (answer ≡ done_or (refusal_number (written_of (opened quotas ids principals s)))) × (after ≡ lent_after (opened quotas ids principals s) s)
+  Opened s answer after = (answer ≡ done_or (written_of (opened quotas ids principals s))) × (after ≡ lent_after (opened quotas ids principals s) s)
 
-  pub wrong_length : (s : List ℕ) → (length s ≡ book_size → ⊥) → Opened s (refused 101) s
+  pub wrong_length : (s : List ℕ) → (length s ≡ book_size → ⊥) → Opened s (refused (by 101)) s
   unfolding opened
   wrong_length s other = (rw (ne_eqb (length s) book_size other), rw (ne_eqb (length s) book_size other))
 
-  pub not_given : (s : List ℕ) → length s ≡ book_size → are_given quotas ids principals ≡ false → Opened s (refused 103) s
+  pub not_given : (s : List ℕ) → length s ≡ book_size → are_given quotas ids principals ≡ false → Opened s (refused (by 103)) s
   unfolding opened
   not_given s size bad = (rw (eq-eqb (length s) book_size size, bad), rw (eq-eqb (length s) book_size size, bad))
 

@@ -18,6 +18,7 @@ use Rattle.dates.specs.Notice.{is_days}
 use Rattle.forms.specs.Order.{demand}
 use Rattle.forms.specs.Identifiers.{is_server_id}
 use Rattle.forms.specs.Output.{text, refusal}
+use Rattle.forms.specs.Refusals.{by}
 use Rattle.forms.proofs.NamesAt.{name_at_lem}
 use Rattle.tenants.specs.declared.Setting.{Setting}
 use Rattle.tenants.specs.Together.{cells_of, no_setting, is_setting, quota_sum, is_good}
@@ -74,7 +75,7 @@ given_good quotas ids principals given = record {
         rw (each_is (first_setting quotas ids principals) 16 t no_setting h) (setting_given quotas ids principals long (search (and_first, and_second)) t h)
 
 -- what opening answers with a book was not refused
-written : (size given : Bool) (bytes book : List ℕ) → demand size (refusal 101) (demand given (refusal 103) (text bytes)) ≡ text book
+written : (size given : Bool) (bytes book : List ℕ) → demand size (refusal (by 101)) (demand given (refusal (by 103)) (text bytes)) ≡ text book
     → (given ≡ true) × (bytes ≡ book)
 written true true bytes book made = (refl, cc)
 written true false bytes book made = (cc, cc)

@@ -5,6 +5,7 @@ use Rattle.octets.specs.Places.{number_at}
 use Rattle.text.specs.Characters.{is_name_character}
 use Rattle.forms.specs.Order.{demand}
 use Rattle.forms.specs.Output.{Output, text, refusal}
+use Rattle.forms.specs.Refusals.{by}
 use Rattle.tenants.specs.declared.Setting.{Setting}
 use Rattle.tenants.specs.Together.{Book, are_principals, quota_sum}
 use Rattle.layout.specs.Layout.{book_size, book_bytes, book_of, each_from, is_book}
@@ -31,8 +32,8 @@ are_given quotas ids principals =
 -- opening: 101 for another length than a book's, then 103
 unfoldable pub opened : List ℕ → List ℕ → List ℕ → List ℕ → Output
 opened quotas ids principals s =
-    demand (eqb (length s) book_size) (refusal 101)
-    (demand (are_given quotas ids principals) (refusal 103)
+    demand (eqb (length s) book_size) (refusal (by 101))
+    (demand (are_given quotas ids principals) (refusal (by 103))
     (text (book_bytes (empty_book quotas ids principals))))
 
 -- opening gives an undamaged book with these settings and no cell

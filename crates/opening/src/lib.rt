@@ -4,7 +4,7 @@
 ghost use Rattle.std.specs.Prelude.{◌≡◌, ◌<◌, ◌≤◌, length, sum, MatchOption};
 ghost use Rattle.text.specs.Texts.{placed};
 ghost use Rattle.forms.specs.Output.{written_of, lent_after};
-ghost use Rattle.forms.specs.Refusals.{refusal_number, done_or};
+ghost use Rattle.forms.specs.Refusals.{done_or};
 ghost use Rattle.tenants.specs.Together.{is_principal, are_principals};
 ghost use Rattle.layout.specs.Layout.{settings_place, setting_bytes, all_bytes, book_size, book_bytes, zeros};
 ghost use Rattle.opening.specs.Opening.{first_setting, first_settings, empty_book, are_given, opened};
@@ -141,7 +141,7 @@ pub fn open_book(
     ids: &[u8],
     principals: &[u8],
 ) -> Result<(), Refusal>
-    ensures { (result ≡ done_or (refusal_number (written_of (opened quotas.now ids.now principals.now book.old))))
+    ensures { (result ≡ done_or (written_of (opened quotas.now ids.now principals.now book.old)))
         × (book.new ≡ lent_after (opened quotas.now ids.now principals.now book.old) book.old) }
 {
     if book.len() != BOOK_SIZE {

@@ -13,9 +13,10 @@ use Rattle.text.specs.Characters.{raised_text}
 use Rattle.text.specs.Texts.{same_text}
 use Rattle.text.proofs.Raising.{low_raised, raised_at, drop-raised, same_length}
 use Rattle.text.proofs.SameTexts.{same_true, same_refl}
+use Rattle.forms.proofs.HwIds.{same_form}
 use Rattle.cell_permit.specs.CellPermit.{ship_words}
 use Rattle.cell_permit.specs.EitherCase.{CaseAlone}
-use Rattle.cell_permit.specs.Line.{read_with}
+use Rattle.cell_permit.specs.Line.{read_with, given_answer}
 use Rattle.cell_permit.proofs.EitherCases.{one_size, read_either_case, ship_either_case}
 use Rattle.file_lines.specs.Lines.{line_length, line_ends, line_at, ecs, ends_at}
 use Rattle.permit_file.specs.File.{first_place, open_of, step_by, step_of}
@@ -74,11 +75,10 @@ steps_alike read file other place alone same =
     rw (one_length_lem file other place alone, ends_alike file other place alone, line_ends_lem file other place alone, same)
 
 pub step_either_case : StepEitherCase
-unfolding step_of
+unfolding step_of given_answer
 step_either_case hw k today days file other place same alone =
-    let ship = ship_either_case hw k same in
     rw (
-      ship.0,
-      ship.1 today days,
+      (ship_either_case hw k same).0,
+      same_form hw k same,
       steps_alike (read_with (ship_words k) today days) file other place alone (read_either_case (ship_words k) today days _ _ alone.line),
     )

@@ -9,6 +9,7 @@ use lib.Dec.{leb, ltb}
 use lib.ListN.{length, take, drop}
 use Rattle.std.specs.Prelude.{Result}
 use Rattle.octets.proofs.Every.{either}
+use Rattle.forms.specs.Refusals.{by}
 use Rattle.forms.specs.declared.refusals.Refusal.{Refusal}
 use Rattle.cell_permit.specs.declared.Record.{Record}
 use Rattle.file_lines.specs.Lines.{line_ends, ends_at, line_found}
@@ -24,7 +25,7 @@ module _ (read : List ℕ → Result Record Refusal) (file : List ℕ) (place : 
   -- what a step gives, by what stands at its place
   abbrev pub found_step : LineFound → Step
   found_step (found.Line end) = onward (read (take (end - place) (drop place file))) (cursor (end + 2))
-  found_step found.Unended = refused_step 12 (cursor (length file))
+  found_step found.Unended = refused_step (cursor (length file)) (by 12)
   found_step found.End = End (cursor place)
 
   pub by_found : step_by read file place ≡ found_step (line_found file place)

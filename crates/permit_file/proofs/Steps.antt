@@ -1,17 +1,19 @@
 -- Places rise until the end, which stays and is reached within as many steps as the file has bytes.
 -- Assumes nothing.
-use mathlib.Core.Path.{◌≡◌, refl}
+use mathlib.Core.Path.{◌≡◌, refl, sym, ◌∙◌}
 use mathlib.Core.Bool.{true, false}
 use mathlib.Core.List.{List}
 use Prim.Native.Nat.{ℕ, zero, suc, ◌+◌, ◌-◌, ◌≤◌, ◌<◌}
 use native.Mathlib.Omega.{arith}
-use borrow.Author.Tests.{le-leb, ltb-true, eq-eqb}
+use borrow.Author.Tests.{le-leb, ltb-true}
 use lib.Dec.{leb, ltb}
 use lib.ListN.{length}
 use Rattle.std.specs.Prelude.{Result, Ok, Err}
 use Rattle.octets.proofs.Every.{either, never_both}
+use Rattle.forms.specs.Refusals.{by}
+use Rattle.forms.proofs.Numbered.{none_refused}
 use Rattle.cell_permit.specs.CellPermit.{ship_words}
-use Rattle.cell_permit.specs.Line.{given_number}
+use Rattle.cell_permit.specs.Line.{given_answer, given_number}
 use Rattle.forms.specs.declared.refusals.Refusal.{Refusal}
 use Rattle.cell_permit.specs.declared.Record.{Record}
 use Rattle.file_lines.specs.Lines.{line_ends, line_at, ends_at}
@@ -30,7 +32,7 @@ onward_no_end (Ok r) place = refl
 onward_no_end (Err r) place = refl
 
 module _ (read : List ℕ → Result Record Refusal) (file : List ℕ) (place : ℕ) where
-  beyond : leb place (length file) ≡ false → step_by read file place ≡ refused_step 12 (cursor (length file))
+  beyond : leb place (length file) ≡ false → step_by read file place ≡ refused_step (cursor (length file)) (by 12)
   unfolding step_by
   beyond past = rw past
 
@@ -40,7 +42,7 @@ module _ (read : List ℕ → Result Record Refusal) (file : List ℕ) (place : 
 
   unended
       : leb place (length file) ≡ true → ends_at file place ≡ false → ltb (line_ends file place) (length file) ≡ false
-      → step_by read file place ≡ refused_step 12 (cursor (length file))
+      → step_by read file place ≡ refused_step (cursor (length file)) (by 12)
   unfolding step_by
   unended within on runs = rw (within, on, runs)
 
@@ -65,7 +67,7 @@ module _ (read : List ℕ → Result Record Refusal) (file : List ℕ) (place : 
 module _ (hw today days : ℕ) (file : List ℕ) (place n : ℕ) (given : n ≡ given_number hw today days) where
   pub given_good : n ≡ 0 → step_of hw today days file place ≡ step_with (ship_words hw) today days file place
   unfolding step_of
-  given_good good = rw (← given, eq-eqb n 0 good)
+  given_good good = rw (none_refused (given_answer hw today days) (sym given ∙ good))
 
 pub places_rise : PlacesRise
 places_rise read file place h going =

@@ -1,12 +1,12 @@
 -- A permit file, PERMIT.TXT: its header, and reading on from a place.
-use Rattle.std.specs.Prelude.{Bool, true, false, not, ◌&&◌, List, ℕ, ◌+◌, leb, ltb, eqb, length, Result, Ok, Err}
+use Rattle.std.specs.Prelude.{Bool, true, false, not, ◌&&◌, List, ℕ, ◌+◌, leb, ltb, length, Result, Ok, Err}
 use Rattle.text.specs.Ascii.{ascii}
 use Rattle.text.specs.Texts.{stands_at}
 use Rattle.forms.specs.Order.{demand}
-use Rattle.forms.specs.Refusals.{number_of, refusal_of, refused}
+use Rattle.forms.specs.Refusals.{by, number_of, refused, unless}
 use Rattle.forms.specs.declared.refusals.Refusal.{Refusal}
 use Rattle.cell_permit.specs.CellPermit.{ship_words}
-use Rattle.cell_permit.specs.Line.{read_with, given_number, line_number}
+use Rattle.cell_permit.specs.Line.{read_with, given_answer, line_number}
 use Rattle.cell_permit.specs.Answers.{LineValues, record_values, no_values}
 use Rattle.cell_permit.specs.declared.Record.{Record}
 use Rattle.file_lines.specs.Lines.{line_ends, line_at, ends_at}
@@ -24,16 +24,16 @@ abbrev pub onward : Result Record Refusal → Cursor → Step
 onward (Ok r) next = step.Record r next
 onward (Err r) next = step.Refused r next
 
--- a refusal by its number, with the next cursor
-abbrev pub refused_step : ℕ → Cursor → Step
-refused_step n next = step.Refused (refusal_of n) next
+-- a refusal, with the next cursor
+abbrev pub refused_step : Cursor → Refusal → Step
+refused_step next r = step.Refused r next
 
 -- one step from a place, where read says what a line gives: 12 for a place beyond the file and for a line that no CR LF ends
 unfoldable pub step_by : (List ℕ → Result Record Refusal) → List ℕ → ℕ → Step
 step_by read file place =
-    demand (leb place (length file)) (refused_step 12 (cursor (length file)))
+    demand (leb place (length file)) (refused_step (cursor (length file)) (by 12))
     (demand (not (ends_at file place)) (step.End (cursor place))
-    (demand (ltb (line_ends file place) (length file)) (refused_step 12 (cursor (length file)))
+    (demand (ltb (line_ends file place) (length file)) (refused_step (cursor (length file)) (by 12))
     (onward (read (line_at file place)) (cursor (line_ends file place + 2)))))
 
 -- one step under the words of a ship
@@ -43,7 +43,7 @@ step_with words today days file place = step_by (read_with words today days) fil
 -- one step: 18, 14 and 103 come first, and answer with the place that was given
 unfoldable pub step_of : ℕ → ℕ → ℕ → List ℕ → ℕ → Step
 step_of hw today days file place =
-    demand (eqb (given_number hw today days) 0) (refused_step (given_number hw today days) (cursor place))
+    unless (given_answer hw today days) (refused_step (cursor place))
     (step_with (ship_words hw) today days file place)
 
 -- what follows the time
@@ -61,8 +61,8 @@ first_place = 40
 -- opening a file: 12 for the header, 11 where no line follows it
 unfoldable pub open_of : List ℕ → Result Cursor Refusal
 open_of file =
-    demand (is_header file) (refused 12)
-    (demand (not (ends_at file first_place)) (refused 11)
+    demand (is_header file) (refused (by 12))
+    (demand (not (ends_at file first_place)) (refused (by 11))
     (Ok (cursor first_place)))
 
 -- its place; 0 at a refusal

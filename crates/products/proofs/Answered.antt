@@ -6,7 +6,7 @@ use mathlib.Core.List.{List, [], ◌∷◌, map}
 use Prim.Native.Nat.{ℕ}
 use lib.ListN.{drop}
 use Rattle.std.proofs.Common.{None, Some, Ok}
-use Rattle.forms.specs.Refusals.{refused}
+use Rattle.forms.specs.Refusals.{by, refused}
 use Rattle.file_lines.specs.EncPart.{lines_of, enc_lines, is_closed}
 use Rattle.product_row.specs.Row.{row_of}
 use Rattle.product_names.specs.Repeats.{repeats, name_of, names_from}
@@ -34,16 +34,16 @@ wrong_made true r made = cc
 wrong_made false r made = refl
 
 module _ (list : List ℕ) (name edition update : ℕ) where
-  pub bad_ships : is_ships name edition update ≡ false → standing_of list name edition update ≡ refused 103
+  pub bad_ships : is_ships name edition update ≡ false → standing_of list name edition update ≡ refused (by 103)
   unfolding standing_of
   bad_ships bad = rw bad
 
   module _ (good : is_ships name edition update ≡ true) where
-    bad-list : is_listing list ≡ false → standing_of list name edition update ≡ refused 12
+    bad-list : is_listing list ≡ false → standing_of list name edition update ≡ refused (by 12)
     unfolding standing_of
     bad-list bad = rw (good, bad)
 
-    pub bad_header : Begins list None → standing_of list name edition update ≡ refused 12
+    pub bad_header : Begins list None → standing_of list name edition update ≡ refused (by 12)
     unfolding is_listing
     bad_header none = bad-list (rw none)
 
@@ -58,7 +58,7 @@ module _ (list : List ℕ) (name edition update : ℕ) where
       unfolding rows_of
       same_rows = ap (λ (lines : List (List ℕ)). map row_of (enc_lines lines)) (sym begins.1.0)
 
-      pub bad-rows : None ≡ rows_read list first name → standing_of list name edition update ≡ refused 12
+      pub bad-rows : None ≡ rows_read list first name → standing_of list name edition update ≡ refused (by 12)
       unfolding rows_read
       bad-rows made = bad-list (same-list ∙ wrong_made (is_good_from list first) _ made)
 
@@ -74,7 +74,7 @@ module _ (list : List ℕ) (name edition update : ℕ) where
         pub in_order : rows.rising ≡ rises_from 0 (names_of (rows_from list first))
         in_order = ap (λ (r : Rows). r.rising) parts.1
 
-        pub twice : repeats (names_of (rows_from list first)) ≡ true → standing_of list name edition update ≡ refused 110
+        pub twice : repeats (names_of (rows_from list first)) ≡ true → standing_of list name edition update ≡ refused (by 110)
         unfolding standing_of
         twice two = rw (good, same-list ∙ parts.0, same_rows, two)
 

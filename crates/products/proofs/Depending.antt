@@ -13,7 +13,7 @@ use lib.ListN.{length, get_or, length-map}
 use Rattle.std.proofs.Common.{Option, Some, Result, Ok}
 use Rattle.octets.proofs.Every.{either, and_first, and_second, or_first, or_second, never_both}
 use Rattle.forms.specs.Order.{demand}
-use Rattle.forms.specs.Refusals.{refused}
+use Rattle.forms.specs.Refusals.{by, refused}
 use Rattle.forms.specs.declared.refusals.Refusal.{Refusal}
 use Rattle.product_row.specs.declared.Row.{Row}
 use Rattle.product_names.specs.Repeats.{stands_in, repeats}
@@ -109,7 +109,7 @@ one_row_each list good i j hi hj e =
 
 -- 110 is the last of the demands
 last-refused
-    : (a b c : Bool) (s : Standing) → ◌≡◌ {A = Result Standing Refusal} (demand a (refused 103) (demand b (refused 12) (demand (not c) (refused 110) (Ok s)))) (refused 110)
+    : (a b c : Bool) (s : Standing) → ◌≡◌ {A = Result Standing Refusal} (demand a (refused (by 103)) (demand b (refused (by 12)) (demand (not c) (refused (by 110)) (Ok s)))) (refused (by 110))
     → (a ≡ true) × ((b ≡ true) × (c ≡ true))
 last-refused true true true s e = (refl, (refl, refl))
 last-refused true true false s e = cc

@@ -1,7 +1,7 @@
 -- How a ship's cell stands against the product list.
 use Rattle.std.specs.Prelude.{Option, None, Some, Result, Ok, Err, Bool, cond, not, ◌&&◌, ◌||◌, List, [], ◌∷◌, map, ℕ, leb, ltb, eqb}
 use Rattle.forms.specs.Order.{demand}
-use Rattle.forms.specs.Refusals.{number_of, refused}
+use Rattle.forms.specs.Refusals.{by, number_of, refused}
 use Rattle.forms.specs.declared.refusals.Refusal.{Refusal}
 use Rattle.forms.specs.Identifiers.{is_cell_name}
 use Rattle.product_row.specs.declared.Row.{Row}
@@ -35,9 +35,9 @@ names_of rows = map (λ (row : Row). row.name) rows
 -- the answer: 103 for what the ship gave, 12 for the header or any row, 110 for a name that stands twice
 unfoldable pub standing_of : List ℕ → ℕ → ℕ → ℕ → Result Standing Refusal
 standing_of list name edition update =
-    demand (is_ships name edition update) (refused 103)
-    (demand (is_listing list) (refused 12)
-    (demand (not (repeats (names_of (rows_of list)))) (refused 110)
+    demand (is_ships name edition update) (refused (by 103))
+    (demand (is_listing list) (refused (by 12))
+    (demand (not (repeats (names_of (rows_of list)))) (refused (by 110))
     (Ok (standing_by (own_row name (rows_of list)) edition update))))
 
 -- the number of an answer: 27 for a cell that is behind

@@ -3,7 +3,7 @@ use Rattle.std.specs.Prelude.{◌≡◌, Some, Ok, true, false, List, ◌++◌, 
 use Rattle.text.specs.Ascii.{ascii}
 use Rattle.file_lines.specs.EncPart.{lines_of}
 use Rattle.file_lines.specs.Dated.{is_below}
-use Rattle.forms.specs.Refusals.{refused}
+use Rattle.forms.specs.Refusals.{by, refused}
 use Rattle.product_row.specs.declared.Row.{Row}
 use Rattle.product_names.specs.Repeats.{repeats}
 use Rattle.products.specs.Listing.{is_date_line, is_header, after_header, is_listing, rows_of}
@@ -54,10 +54,10 @@ OneRowEach =
 abbrev pub TwiceExactly : Type 0
 TwiceExactly =
     (list : List ℕ) (name edition update : ℕ)
-    → (standing_of list name edition update ≡ refused 110
+    → (standing_of list name edition update ≡ refused (by 110)
     → (is_ships name edition update ≡ true) × ((is_listing list ≡ true) × (repeats (names_of (rows_of list)) ≡ true)))
     × (is_ships name edition update ≡ true → is_listing list ≡ true → repeats (names_of (rows_of list)) ≡ true
-    → standing_of list name edition update ≡ refused 110)
+    → standing_of list name edition update ≡ refused (by 110))
 
 -- what follows the line :ECS does not matter
 abbrev pub EcsPassedOver : Type 0

@@ -1,6 +1,6 @@
 -- What holds of every line that is read, and of 12, holds of each answer; and tests that agree on each answer count the same.
 -- Assumes nothing.
-use Rattle.forms.specs.Refusals.{refused}
+use Rattle.forms.specs.Refusals.{by, refused}
 use Rattle.forms.specs.declared.refusals.Refusal.{Refusal}
 use Rattle.cell_permit.specs.declared.Record.{Record}
 use Rattle.std.specs.Prelude.{Err, Ok, Result}
@@ -40,13 +40,13 @@ module _ (P : Result Record Refusal → Type 0) where
   of_following from later (step.Refused n c) held = (held, later c.place)
   of_following from later (step.End c) held = tt
 
-  module _ (read : List ℕ → Result Record Refusal) (of-read : (s : List ℕ) → P (read s)) (of-12 : P (refused 12)) (file : List ℕ) where
+  module _ (read : List ℕ → Result Record Refusal) (of-read : (s : List ℕ) → P (read s)) (of-12 : P (refused (by 12))) (file : List ℕ) where
     pub of-step : (place : ℕ) → OfStep P (step_by read file place)
     unfolding step_by
     of-step place =
-        demanded (OfStep P) (leb place (length file)) (refused_step 12 (cursor (length file))) _ of-12
+        demanded (OfStep P) (leb place (length file)) (refused_step (cursor (length file)) (by 12)) _ of-12
         (λ within. demanded (OfStep P) (not (ends_at file place)) (step.End (cursor place)) _ tt
-        (λ on. demanded (OfStep P) (ltb (line_ends file place) (length file)) (refused_step 12 (cursor (length file))) _ of-12
+        (λ on. demanded (OfStep P) (ltb (line_ends file place) (length file)) (refused_step (cursor (length file)) (by 12)) _ of-12
         (λ closed. of_onward (read (line_at file place)) (cursor (line_ends file place + 2)) (of-read (line_at file place)))))
 
     pub of-answers : (n place : ℕ) → OfEach P (answers_from read file n place)

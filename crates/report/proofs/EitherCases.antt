@@ -11,9 +11,11 @@ use Rattle.text.specs.Texts.{part, all_at}
 use Rattle.text.proofs.Raising.{same_length}
 use Rattle.text.proofs.TextsAt.{part_of_part, same_byte}
 use Rattle.forms.specs.declared.refusals.Refusal.{Refusal}
+use Rattle.forms.proofs.HwIds.{same_form}
 use Rattle.cell_permit.specs.declared.Record.{Record}
 use Rattle.cell_permit.specs.CellPermit.{ship_words}
 use Rattle.cell_permit.specs.EitherCase.{CaseAlone}
+use Rattle.cell_permit.specs.Line.{given_answer}
 use Rattle.cell_permit.proofs.EitherCases.{read_either_case, ship_either_case}
 use Rattle.file_lines.specs.Lines.{line_at}
 use Rattle.permit_file.specs.File.{step_by, first_place, open_of, next_place}
@@ -23,7 +25,7 @@ use Rattle.permit_file.specs.declared.Step.{Step}
 use Rattle.permit_file.specs.declared.Step.TheVariants as step
 use Rattle.permit_file.proofs.EitherCases.{open_either_case, steps_alike}
 use Rattle.permit_file.specs.Answers.{following, answers_from, enc_answers}
-use Rattle.report.specs.LookThrough.{is_first_line, hw_of, today_of, days_of, file_of, start_number, answers_of, report}
+use Rattle.report.specs.LookThrough.{is_first_line, hw_of, today_of, days_of, file_of, start_answer, answers_of, report}
 use Rattle.report.specs.EitherCase.{read_for, InputCaseAlone, ReportEitherCase}
 
 -- what follows a step goes by the next place alone
@@ -84,13 +86,13 @@ module _ (input other : List ℕ) (alone : InputCaseAlone input other) where
   open_alike : open_of f ≡ open_of g
   open_alike = open_either_case f g alone.header (at_place first_place first_place_lem)
 
-  start_alike : start_number input ≡ start_number other
-  unfolding start_number
+  start_alike : start_answer input ≡ start_answer other
+  unfolding start_answer given_answer
   start_alike =
       rw (
         alone.size,
         first_alike,
-        (ship_either_case (hw_of input) (hw_of other) alone.hw_id).1 (today_of input) (days_of input),
+        same_form (hw_of input) (hw_of other) alone.hw_id,
         today_alike,
         days_alike,
         open_alike,

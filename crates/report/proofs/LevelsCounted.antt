@@ -12,7 +12,7 @@ use lib.ListN.{length}
 use Rattle.dates.specs.Notice.{days_left, notice_number}
 use Rattle.dates.specs.declared.Notice.{Notice}
 use Rattle.dates.proofs.Levels.{no_subscription, not_current}
-use Rattle.forms.specs.Refusals.{refused}
+use Rattle.forms.specs.Refusals.{by, refused}
 use Rattle.forms.specs.declared.refusals.Refusal.{Refusal}
 use Rattle.cell_permit.specs.CellPermit.{ship_words}
 use Rattle.cell_permit.specs.Line.{read_with}
@@ -71,7 +71,7 @@ counted_by_level input = (
     days = days_of input
 
     all_are_lem : (one other : Result Record Refusal → Bool) → ((s : List ℕ) (a : Result Record Refusal) → read_with words today days s ≡ a → one a ≡ (one a && other a))
-        → one (refused 12) ≡ (one (refused 12) && other (refused 12)) → AllAre one other (answers_of input)
+        → one (refused (by 12)) ≡ (one (refused (by 12)) && other (refused (by 12))) → AllAre one other (answers_of input)
     all_are_lem one other of-read of-12 =
         same_counts one (λ (a : Result Record Refusal). one a && other a) (answers_of input)
         (of-answers (λ (a : Result Record Refusal). one a ≡ (one a && other a)) (read_with words today days)

@@ -5,62 +5,56 @@ use mathlib.Core.Bool.{true}
 use mathlib.Core.List.{List, ◌++◌}
 use Prim.Native.Nat.{ℕ, ◌+◌, ◌*◌, ◌^◌, ◌≤◌, ◌<◌}
 use native.Mathlib.Omega.{arith}
-use borrow.Author.Tests.{leb-true, leb-false, eqb-true, eqb-false, le-leb, lt-leb, eq-eqb, ne_eqb}
-use lib.Dec.{leb, eqb}
+use borrow.Author.Tests.{leb-true, le-leb, lt-leb, eq-eqb, ne_eqb}
+use lib.Dec.{leb}
 use lib.ListN.{length, length-append, length-drop}
-use Rattle.std.specs.Prelude.{Ok}
+use Rattle.std.specs.Prelude.{Result, Ok, Err, ⊤}
 use Rattle.octets.proofs.Every.{either}
 use Rattle.text.specs.Texts.{width, placed}
 use Rattle.text.proofs.Numerals.{numeral-length, width-at-most}
 use Rattle.text.proofs.PlacedTexts.{placed_start}
 use Rattle.forms.specs.Output.{text, refusal, written_of, lent_after}
-use Rattle.forms.specs.Refusals.{refusal_number}
+use Rattle.forms.specs.Refusals.{by, number_of, refused, refusal_number, done_or}
+use Rattle.forms.specs.declared.refusals.Refusal.{Refusal}
+use Rattle.forms.proofs.Demands.{passed, unless_passed}
+use Rattle.forms.proofs.Numbered.{has_number}
 use Rattle.cell_permit.specs.CellPermit.{ship_words}
-use Rattle.cell_permit.specs.Line.{read_with, given_number}
+use Rattle.cell_permit.specs.Line.{read_with, given_answer}
 use Rattle.cell_permit.proofs.LineNumbers.{two_digits}
+use Rattle.permit_file.specs.declared.Cursor.{Cursor}
 use Rattle.permit_file.specs.File.{is_header, open_of, first_place}
 use Rattle.permit_file.proofs.Headers.{header_within}
 use Rattle.permit_file.specs.Answers.{enc_answers}
-use Rattle.report.specs.LookThrough.{is_first_line, hw_of, today_of, days_of, file_of, start_number, answers_of, rows_from, totals_of, refused_text, report, line_ends_in, room_for, reported}
+use Rattle.report.specs.LookThrough.{is_first_line, hw_of, today_of, days_of, file_of, start_answer, start_number, answers_of, rows_from, totals_of, refused_text, report, line_ends_in, room_for, reported}
 use Rattle.report.specs.Turns.{Few, tally_of, last_field, totals_end, totals_text}
 use Rattle.report.specs.declared.rows.Tally.{Tally}
 use Rattle.report.proofs.LineEnds.{fewer_after}
 use Rattle.report.proofs.Room.{rows_room, all_few, few_tally}
-use Rattle.report.proofs.Starts.{too_long, wrong-shape, wrong-given, by-opening}
 use Rattle.report.proofs.Putting.{Put, next_fits, both-put}
 
+-- nothing is refused
+abbrev Passed : Result ⊤ Refusal → Type 0
+Passed a = refusal_number a ≡ 0
+
 module _ (input : List ℕ) (good : start_number input ≡ 0) where
+  -- each test of its start was passed
+  tests : (leb (length input) 65536 ≡ true) × ((is_first_line input ≡ true) × (is_header (file_of input) ≡ true))
+  unfolding start_answer open_of
+  tests =
+      let short = passed Passed (leb (length input) 65536) (refused (by 103)) _ (has_number (by 103)) good in
+      let first = passed Passed (is_first_line input) (refused (by 103)) _ (has_number (by 103)) short.1 in
+      let given = unless_passed Passed (given_answer (hw_of input) (today_of input) (days_of input)) refused _ has_number first.1 in
+      let header = passed (λ (c : Result Cursor Refusal). Passed (done_or c)) (is_header (file_of input)) (refused (by 12)) _ (has_number (by 12)) given.1 in
+      (short.0, (first.0, header.0))
+
   pub size : length input ≤ 65536
-  size =
-      either (leb (length input) 65536)
-      (λ so. leb-true (length input) 65536 so)
-      (λ long. omega (arith, good, too_long input (leb-false (length input) 65536 long)))
+  size = leb-true (length input) 65536 tests.0
 
   pub shape : is_first_line input ≡ true
-  shape =
-      either (is_first_line input)
-      (λ so. so)
-      (λ other. let never : ◌≡◌ {A = ℕ} 0 1 = omega (arith, good, wrong-shape input size other) in absurd (omega arith))
-
-  given : given_number (hw_of input) (today_of input) (days_of input) ≡ 0
-  given =
-      let number = given_number (hw_of input) (today_of input) (days_of input) in
-      either (eqb number 0)
-      (λ so. eqb-true number 0 so)
-      (λ other. sym (wrong-given input size shape (eqb-false number 0 other)) ∙ good)
-
-  opens : refusal_number (open_of (file_of input)) ≡ 0
-  opens = sym (by-opening input size shape given) ∙ good
-
-  header : is_header (file_of input) ≡ true
-  unfolding open_of
-  header =
-      either (is_header (file_of input))
-      (λ so. so)
-      (λ other. let never : ◌≡◌ {A = ℕ} 12 0 = rw other at opens in absurd (omega arith))
+  shape = tests.1.0
 
   pub file_within : first_place ≤ length (file_of input)
-  file_within = header_within (file_of input) header
+  file_within = header_within (file_of input) tests.1.1
 
 -- each total has five digits at most
 pub totals_short : (t : Tally) → Few 100000 t → length (totals_text t) ≤ 100
@@ -137,7 +131,7 @@ module _ (input : List ℕ) (good : start_number input ≡ 0) where
     pub report-fits : length (report input) ≤ length out
     report-fits = omega (arith, all-fits, ap length same-totals)
 
-pub no_room : (input out : List ℕ) → length out < room_for input → reported input (length out) ≡ refusal 108
+pub no_room : (input out : List ℕ) → length out < room_for input → reported input (length out) ≡ refusal (by 108)
 unfolding reported
 no_room input out h = rw (lt-leb (room_for input) (length out) h)
 
@@ -146,9 +140,9 @@ pub least_room : (input : List ℕ) → 118 ≤ room_for input
 unfolding room_for
 least_room input = either (leb (length input) 65536) (λ short. rw short (omega arith)) (λ long. rw long (omega arith))
 
-pub why_refused : (input : List ℕ) → (start_number input ≡ 0 → ⊥) → report input ≡ refused_text (start_number input)
+pub why_refused : (input : List ℕ) (r : Refusal) → Err r ≡ start_answer input → report input ≡ refused_text (number_of r)
 unfolding report
-why_refused input h = rw (ne_eqb (start_number input) 0 h)
+why_refused input r here = rw (← here, ne_eqb (number_of r) 0 (has_number r))
 
 module _ (input out : List ℕ) (room : room_for input ≤ length out) (fits : length (report input) ≤ length out) where
   told : reported input (length out) ≡ text (report input)

@@ -16,7 +16,7 @@ use Rattle.octets.proofs.Every.{either}
 use Rattle.text.specs.Texts.{width}
 use Rattle.text.proofs.Numerals.{width-at-most, numeral-length}
 use Rattle.forms.proofs.Demands.{demanded}
-use Rattle.forms.specs.Refusals.{number_of}
+use Rattle.forms.specs.Refusals.{by, number_of}
 use Rattle.forms.specs.declared.refusals.Refusal.{Refusal}
 use Rattle.cell_permit.specs.declared.Record.{Record}
 use Rattle.cell_permit.specs.Line.{line_number}
@@ -46,7 +46,7 @@ abbrev pub Short : (List ℕ → Result Record Refusal) → Type 0
 Short read = (s : List ℕ) → line_number (read s) < 100
 
 module _ (file : List ℕ) (place : ℕ) where
-  last : Onward file place (refused_step 12 (cursor (length file)))
+  last : Onward file place (refused_step (cursor (length file)) (by 12))
   last on = inr refl
 
   next : (a : Result Record Refusal) (c : Cursor) → Past file place c.place → Onward file place (onward a c)
@@ -67,7 +67,7 @@ module _ (read : List ℕ → Result Record Refusal) (file : List ℕ) where
       P = Onward file place
 
       end : Step
-      end = refused_step 12 (cursor (length file))
+      end = refused_step (cursor (length file)) (by 12)
 
 pub name_length : (a : Result Record Refusal) → length (name_shown a) ≡ 8
 name_length (Ok r) = digits-length 256 8 r.name

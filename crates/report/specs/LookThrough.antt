@@ -1,5 +1,5 @@
 -- What the look-through program prints for what it reads.
-use Rattle.std.specs.Prelude.{Bool, true, false, cond, ◌&&◌, List, [], ◌∷◌, ◌++◌, ℕ, suc, ◌+◌, ◌*◌, leb, eqb, length, get_or, drop, Err, Ok, Result}
+use Rattle.std.specs.Prelude.{Bool, true, false, cond, ◌&&◌, List, [], ◌∷◌, ◌++◌, ℕ, suc, ◌+◌, ◌*◌, leb, eqb, length, get_or, drop, Err, Ok, Result, ⊤}
 use Rattle.octets.specs.Every.{count_of}
 use Rattle.octets.specs.Numbers.{bytes_of}
 use Rattle.octets.specs.Places.{number_at}
@@ -9,10 +9,10 @@ use Rattle.text.specs.Texts.{part, all_at, stands_at, numeral}
 use Rattle.forms.specs.Order.{demand}
 use Rattle.forms.specs.Output.{Output, text, refusal}
 use Rattle.forms.specs.declared.refusals.Refusal.{Refusal}
-use Rattle.forms.specs.Refusals.{refusal_number}
+use Rattle.forms.specs.Refusals.{by, done_or, refused, refusal_number, unless}
 use Rattle.cell_permit.specs.declared.Record.{Record}
 use Rattle.cell_permit.specs.CellPermit.{ship_words, line_end}
-use Rattle.cell_permit.specs.Line.{read_with, given_number, line_number}
+use Rattle.cell_permit.specs.Line.{read_with, given_answer, line_number}
 use Rattle.file_lines.specs.Lines.{is_line_end}
 use Rattle.permit_file.specs.File.{open_of}
 use Rattle.permit_file.specs.Answers.{enc_answers}
@@ -38,17 +38,17 @@ days_of input = decimal_number (part 2 input 15)
 abbrev pub file_of : List ℕ → List ℕ
 file_of input = drop 19 input
 
--- a refusal, or what comes next where there is none
-abbrev pub or_else : ℕ → ℕ → ℕ
-or_else number next = demand (eqb number 0) number next
+-- whether the lines are listed: 103 for too many bytes or the first line's shape, then 18, 14, 103, then 12 for the header and 11
+unfoldable pub start_answer : List ℕ → Result ⊤ Refusal
+start_answer input =
+    demand (leb (length input) 65536) (refused (by 103))
+    (demand (is_first_line input) (refused (by 103))
+    (unless (given_answer (hw_of input) (today_of input) (days_of input)) refused
+    (done_or (open_of (file_of input)))))
 
--- why nothing is listed: 103 for too many bytes or the first line's shape, then 18, 14, 103, then 12 for the header and 11; 0 where it is
-unfoldable pub start_number : List ℕ → ℕ
-start_number input =
-    demand (leb (length input) 65536) 103
-    (demand (is_first_line input) 103
-    (or_else (given_number (hw_of input) (today_of input) (days_of input))
-    (refusal_number (open_of (file_of input)))))
+-- the number of that; 0 where they are
+abbrev pub start_number : List ℕ → ℕ
+start_number input = refusal_number (start_answer input)
 
 -- the answers for an input
 unfoldable pub answers_of : List ℕ → List (Result Record Refusal)
@@ -108,4 +108,4 @@ room_for input = cond (leb (length input) 65536) (18 * line_ends_in input + 118)
 
 -- the report into an output of so many bytes: 108 where it has not that room
 unfoldable pub reported : List ℕ → ℕ → Output
-reported input room = demand (leb (room_for input) room) (refusal 108) (text (report input))
+reported input room = demand (leb (room_for input) room) (refusal (by 108)) (text (report input))

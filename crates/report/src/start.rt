@@ -1,7 +1,6 @@
 // What the first line gives, and why nothing is listed.
 ghost use Rattle.std.specs.Prelude.{◌≡◌, true};
-ghost use Rattle.forms.specs.Refusals.{done_or};
-ghost use Rattle.report.specs.LookThrough.{is_first_line, hw_of, today_of, days_of, start_number};
+ghost use Rattle.report.specs.LookThrough.{is_first_line, hw_of, today_of, days_of, start_answer};
 
 use forms::refusals::Refusal;
 use text::characters::Alphabet;
@@ -48,9 +47,9 @@ pub(crate) fn days_of(input: &[u8]) -> u32
 }
 
 // Why nothing is listed, where it is not.
-#[tactic(auto, using(crate::proofs::Starts::first_within), unfolding(crate::specs::LookThrough::start_number))]
+#[tactic(auto, using(crate::proofs::Starts::first_within), unfolding(crate::specs::LookThrough::start_answer))]
 pub(crate) fn judge_start(input: &[u8]) -> Result<(), Refusal>
-    ensures { result ≡ done_or (start_number input.now) }
+    ensures { result ≡ start_answer input.now }
 {
     if 65536 < input.len() || !is_first_line(input) {
         return Err(Refusal::Value);

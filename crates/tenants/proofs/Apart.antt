@@ -35,7 +35,7 @@ module _ (t : ℕ) (book : Book) where
         ap with_setting
         (get_or-set_same book.settings t (with_days days (setting_of t book)) no_setting (omega (arith, good.sixteen, tenant_below t ok.0)))
     kept-changed nothing good ok = refl
-    kept-changed (refuses n) good ok = refl
+    kept-changed (refuses r) good ok = refl
 
     other-changed : (u : ℕ) (change : Change) → (t ≡ u → ⊥) → Allowed u own change → kept_of t (changed u change book) ≡ kept_of t book
     unfolding with_cells with_setting
@@ -45,7 +45,7 @@ module _ (t : ℕ) (book : Book) where
     other-changed u (sets days) apart ok =
         ap with_setting (get_or-set_other book.settings u t (with_days days (setting_of u book)) no_setting apart)
     other-changed u nothing apart ok = refl
-    other-changed u (refuses n) apart ok = refl
+    other-changed u (refuses r) apart ok = refl
 
 -- a call works on what the tenant keeps as on one list
 pub kept_after : (t : ℕ) (call : Call) (book : Book) → Good book

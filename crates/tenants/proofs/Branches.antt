@@ -9,6 +9,8 @@ use Rattle.forms.specs.Order.{demand}
 use Rattle.forms.proofs.Demands.{demanded}
 use Rattle.dates.specs.Notice.{is_days}
 use Rattle.forms.specs.Identifiers.{is_cell_name}
+use Rattle.forms.specs.Refusals.{by}
+use Rattle.forms.specs.declared.refusals.Refusal.{Refusal}
 use Rattle.tenants.specs.declared.Held.{Held}
 use Rattle.tenants.specs.declared.Setting.{Setting}
 use Rattle.tenants.specs.Cells.{cell_of}
@@ -44,17 +46,17 @@ LeavesCells (enters cell) = ⊥
 LeavesCells (withdraws name) = ⊥
 LeavesCells (sets days) = Unit {0}
 LeavesCells nothing = Unit {0}
-LeavesCells (refuses n) = Unit {0}
+LeavesCells (refuses r) = Unit {0}
 
 abbrev LeavesSetting : Change → Type 0
 LeavesSetting (enters cell) = Unit {0}
 LeavesSetting (withdraws name) = Unit {0}
 LeavesSetting (sets days) = ⊥
 LeavesSetting nothing = Unit {0}
-LeavesSetting (refuses n) = Unit {0}
+LeavesSetting (refuses r) = Unit {0}
 
-settled : (test : Bool) (n : ℕ) (next : Change) → LeavesSetting next → LeavesSetting (demand test (refuses n) next)
-settled test n next ok = demanded LeavesSetting test (refuses n) next tt (λ _. ok)
+settled : (test : Bool) (r : Refusal) (next : Change) → LeavesSetting next → LeavesSetting (demand test (refuses r) next)
+settled test r next ok = demanded LeavesSetting test (refuses r) next tt (λ _. ok)
 
 module _ (t : ℕ) where
   records_stay : (book : Book) (change : Change) → LeavesCells change → (changed t change book).records ≡ book.records
@@ -62,7 +64,7 @@ module _ (t : ℕ) where
   records_stay book (withdraws name) not = absurd not
   records_stay book (sets days) ok = refl
   records_stay book nothing ok = refl
-  records_stay book (refuses n) ok = refl
+  records_stay book (refuses r) ok = refl
 
 -- only enter and withdraw change cells, and they change nothing else
 module _ (t : ℕ) (own : Own) where
@@ -71,8 +73,8 @@ module _ (t : ℕ) (own : Own) where
   leaves_cells (enter cell) not = absurd (never_both true not refl)
   leaves_cells (withdraw name) not = absurd (never_both true not refl)
   leaves_cells (set_days days) not =
-      demanded LeavesCells (is_tenant t) (refuses 102) (demand (is_days days) (refuses 103) (sets days)) tt
-      (λ _. demanded LeavesCells (is_days days) (refuses 103) (sets days) tt (λ _. tt))
+      demanded LeavesCells (is_tenant t) (refuses (by 102)) (demand (is_days days) (refuses (by 103)) (sets days)) tt
+      (λ _. demanded LeavesCells (is_days days) (refuses (by 103)) (sets days) tt (λ _. tt))
   leaves_cells (ask_edition name) not = tt
   leaves_cells (ask_producer producer) not = tt
   leaves_cells (issue register name expiry level permit room) not = tt
@@ -84,21 +86,21 @@ module _ (t : ℕ) (own : Own) where
   branch_leaves (withdraws name) ok branch = never_both (names_none own.setting) branch ok.1.1.0
   branch_leaves (sets days) ok branch = tt
   branch_leaves nothing ok branch = tt
-  branch_leaves (refuses n) ok branch = tt
+  branch_leaves (refuses r) ok branch = tt
 
   leaves_setting : (call : Call) → changes_cells call ≡ true → LeavesSetting (change_of t call own)
   unfolding entering withdrawing
   leaves_setting (enter cell) does =
-      let new : Change = demand (has_room cell own) (refuses 105) (enters cell) in
-      let keeps : Change = demand (names_none own.setting) (refuses 111) new in
-      settled (is_tenant t) 102 (demand (is_held cell) (refuses 103) keeps)
-      (settled (is_held cell) 103 keeps (settled (names_none own.setting) 111 new (settled (has_room cell own) 105 (enters cell) tt)))
+      let new : Change = demand (has_room cell own) (refuses (by 105)) (enters cell) in
+      let keeps : Change = demand (names_none own.setting) (refuses (by 111)) new in
+      settled (is_tenant t) (by 102) (demand (is_held cell) (refuses (by 103)) keeps)
+      (settled (is_held cell) (by 103) keeps (settled (names_none own.setting) (by 111) new (settled (has_room cell own) (by 105) (enters cell) tt)))
   leaves_setting (withdraw name) does =
       let held : Bool = is_some (cell_of name own.cells) in
-      let gone : Change = demand held (refuses 104) (withdraws name) in
-      let keeps : Change = demand (names_none own.setting) (refuses 111) gone in
-      settled (is_tenant t) 102 (demand (is_cell_name name) (refuses 103) keeps)
-      (settled (is_cell_name name) 103 keeps (settled (names_none own.setting) 111 gone (settled held 104 (withdraws name) tt)))
+      let gone : Change = demand held (refuses (by 104)) (withdraws name) in
+      let keeps : Change = demand (names_none own.setting) (refuses (by 111)) gone in
+      settled (is_tenant t) (by 102) (demand (is_cell_name name) (refuses (by 103)) keeps)
+      (settled (is_cell_name name) (by 103) keeps (settled (names_none own.setting) (by 111) gone (settled held (by 104) (withdraws name) tt)))
   leaves_setting (set_days days) not = absurd (never_both false refl not)
   leaves_setting (ask_edition name) not = tt
   leaves_setting (ask_producer producer) not = tt
@@ -117,7 +119,7 @@ after_leaves_cells (withdraws name) own other same not = absurd not
 after_leaves_cells (sets days) own other same ok =
     ap (λ (s : Setting). after (sets days) (record { setting = s; cells = other.cells })) same
 after_leaves_cells nothing own other same ok = ap (λ (s : Setting). record { setting = s; cells = other.cells }) same
-after_leaves_cells (refuses n) own other same ok = ap (λ (s : Setting). record { setting = s; cells = other.cells }) same
+after_leaves_cells (refuses r) own other same ok = ap (λ (s : Setting). record { setting = s; cells = other.cells }) same
 
 after_leaves_setting : (change : Change) (own keeper : Own) → own.cells ≡ keeper.cells → LeavesSetting change
     → joined own (after change keeper) ≡ after change own
@@ -125,7 +127,7 @@ after_leaves_setting (enters cell) own keeper same ok = ap (λ (l : List Held). 
 after_leaves_setting (withdraws name) own keeper same ok = ap (λ (l : List Held). after (withdraws name) (record { setting = own.setting; cells = l })) (sym same)
 after_leaves_setting (sets days) own keeper same not = absurd not
 after_leaves_setting nothing own keeper same ok = ap (λ (l : List Held). record { setting = own.setting; cells = l }) (sym same)
-after_leaves_setting (refuses n) own keeper same ok = ap (λ (l : List Held). record { setting = own.setting; cells = l }) (sym same)
+after_leaves_setting (refuses r) own keeper same ok = ap (λ (l : List Held). record { setting = own.setting; cells = l }) (sym same)
 
 -- what enter and withdraw change goes by the quota, by whether it is a branch, and by the cells
 module _ (t : ℕ) (own other : Own) (quota : own.setting.quota ≡ other.setting.quota)

@@ -10,6 +10,7 @@ use Rattle.dates.specs.Calendar.{is_date}
 use Rattle.forms.specs.Order.{demand}
 use Rattle.forms.specs.Identifiers.{is_cell_name}
 use Rattle.forms.specs.Output.{Output, text, refusal}
+use Rattle.forms.specs.Refusals.{by}
 use Rattle.user_permit.specs.Register.{is_register}
 use Rattle.std.specs.Prelude.{Result, Ok, Err}
 use Rattle.forms.specs.declared.refusals.Refusal.{Refusal}
@@ -28,7 +29,7 @@ same_line : (ship : Result Ship Refusal) (cell : Option Held) (setting other : S
 same_line (Err r) cell setting other expiry level same = refl
 same_line (Ok ship) none setting other expiry level same = refl
 same_line (Ok ship) (some cell) setting other expiry level same =
-    ap (λ (server : ℕ). demand (in_time cell expiry) (refusal 112) (text (line_of (ship_words ship.hw_id) (record {
+    ap (λ (server : ℕ). demand (in_time cell expiry) (refusal (by 112)) (text (line_of (ship_words ship.hw_id) (record {
       name = cell.name;
       key1 = cell.key1;
       key2 = cell.key2;
@@ -46,8 +47,8 @@ module _ (t : ℕ) (own other : Own) (quota : own.setting.quota ≡ other.settin
       → issuing t register name expiry level permit room own ≡ issuing t register name expiry level permit room other
   unfolding issuing
   same_issue register name expiry level permit room =
-      ap (λ (line : Output). demand (is_register register) (refusal 109) (demand (is_tenant t) (refusal 102)
-      (demand (leb 76 room) (refusal 108) (demand (is_cell_name name && is_date expiry && leb level 1) (refusal 103) line))))
+      ap (λ (line : Output). demand (is_register register) (refusal (by 109)) (demand (is_tenant t) (refusal (by 102))
+      (demand (leb 76 room) (refusal (by 108)) (demand (is_cell_name name && is_date expiry && leb level 1) (refusal (by 103)) line))))
       (ap (λ (l : List Held). line_for (read_permit register permit) (cell_of name l) own.setting expiry level) cells
       ∙ same_line (read_permit register permit) (cell_of name other.cells) own.setting other.setting expiry level server)
 

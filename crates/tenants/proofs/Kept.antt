@@ -69,14 +69,14 @@ module _ (t : ℕ) (book : Book) (u : ℕ) where
   quota_stays (withdraws name) = refl
   quota_stays (sets days) = field_kept days (λ (s : Setting). s.quota) (λ s. refl) book.settings t u
   quota_stays nothing = refl
-  quota_stays (refuses n) = refl
+  quota_stays (refuses r) = refl
 
   principal_stays : (change : Change) → (setting_of u (changed t change book)).principal ≡ (setting_of u book).principal
   principal_stays (enters cell) = refl
   principal_stays (withdraws name) = refl
   principal_stays (sets days) = field_kept days (λ (s : Setting). s.principal) (λ s. refl) book.settings t u
   principal_stays nothing = refl
-  principal_stays (refuses n) = refl
+  principal_stays (refuses r) = refl
 
   pub none_stays : (change : Change) → names_none (setting_of u (changed t change book)) ≡ names_none (setting_of u book)
   unfolding names_none

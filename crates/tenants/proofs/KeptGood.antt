@@ -158,7 +158,7 @@ good_changed t b (enters cell) good ok = good_entered t b good cell ok
 good_changed t b (withdraws name) good ok = good_withdrawn t b good name (name_below name ok.1.0)
 good_changed t b (sets days) good ok = good_days days t b good ok.0 ok.1
 good_changed t b nothing good ok = good
-good_changed t b (refuses n) good ok = good
+good_changed t b (refuses r) good ok = good
 
 -- whatever a tenant calls, a good book is good afterwards
 pub good_call : (t : ℕ) (call : Call) (b : Book) → Good b → Good (changed t (change_of t call (own_of t b)) b)

@@ -10,6 +10,7 @@ use lib.ListN.{length}
 use Rattle.octets.proofs.Every.{and_first, and_second, either}
 use Rattle.dates.specs.Notice.{is_days}
 use Rattle.forms.specs.Identifiers.{is_cell_name}
+use Rattle.forms.specs.Refusals.{by}
 use Rattle.forms.proofs.Demands.{demanded}
 use Rattle.std.specs.Prelude.{Result, Ok, Err}
 use Rattle.forms.specs.declared.refusals.Refusal.{Refusal}
@@ -133,19 +134,19 @@ module _ (t : ℕ) (own : Own) where
     pub none_after : (call : Call) → gives_no_last call ≡ true → Still (change_of t call own)
     unfolding entering withdrawing setting_days
     none_after (enter cell) given =
-        demanded Still (is_tenant t) (refuses 102) _ all
-        (λ _. demanded Still (is_held cell) (refuses 103) _ all
-        (λ _. demanded Still (names_none own.setting) (refuses 111) _ all
-        (λ _. demanded Still (is_some (cell_of cell.name own.cells) || ltb (length own.cells) own.setting.quota) (refuses 105) (enters cell) all
+        demanded Still (is_tenant t) (refuses (by 102)) _ all
+        (λ _. demanded Still (is_held cell) (refuses (by 103)) _ all
+        (λ _. demanded Still (names_none own.setting) (refuses (by 111)) _ all
+        (λ _. demanded Still (is_some (cell_of cell.name own.cells) || ltb (length own.cells) own.setting.quota) (refuses (by 105)) (enters cell) all
         (λ _. none_entered (in_book t cell) b.records given all))))
     none_after (withdraw name) given =
-        demanded Still (is_tenant t) (refuses 102) _ all
-        (λ _. demanded Still (is_cell_name name) (refuses 103) _ all
-        (λ _. demanded Still (names_none own.setting) (refuses 111) _ all
-        (λ _. demanded Still (is_some (cell_of name own.cells)) (refuses 104) (withdraws name) all
+        demanded Still (is_tenant t) (refuses (by 102)) _ all
+        (λ _. demanded Still (is_cell_name name) (refuses (by 103)) _ all
+        (λ _. demanded Still (names_none own.setting) (refuses (by 111)) _ all
+        (λ _. demanded Still (is_some (cell_of name own.cells)) (refuses (by 104)) (withdraws name) all
         (λ _. none_withdrawn _ b.records all))))
     none_after (set_days days) given =
-        demanded Still (is_tenant t) (refuses 102) _ all (λ _. demanded Still (is_days days) (refuses 103) (sets days) all (λ _. all))
+        demanded Still (is_tenant t) (refuses (by 102)) _ all (λ _. demanded Still (is_days days) (refuses (by 103)) (sets days) all (λ _. all))
     none_after (ask_edition name) given = all
     none_after (ask_producer producer) given = all
     none_after (issue register name expiry level permit room) given = all

@@ -25,7 +25,7 @@ after (enters cell) own = record { setting = own.setting; cells = entered cell o
 after (withdraws name) own = record { setting = own.setting; cells = withdrawn name own.cells }
 after (sets days) own = record { setting = with_days days own.setting; cells = own.cells }
 after nothing own = own
-after (refuses n) own = own
+after (refuses r) own = own
 
 -- the answers to the calls, each made on what the calls before it left
 unfoldable pub answers_alone : ℕ → List Call → Own → List Answer

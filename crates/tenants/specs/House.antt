@@ -21,4 +21,4 @@ moved_by t (enters cell) book =
 moved_by t (withdraws name) book = later_in (changed t (withdraws name) book) t name
 moved_by t (sets days) book = 0
 moved_by t nothing book = 0
-moved_by t (refuses n) book = 0
+moved_by t (refuses r) book = 0

@@ -76,7 +76,7 @@ changed t (enters cell) book = record { settings = book.settings; records = ente
 changed t (withdraws name) book = record { settings = book.settings; records = withdrawn (full_name t name) book.records }
 changed t (sets days) book = record { settings = set book.settings t (with_days days (setting_of t book)); records = book.records }
 changed t nothing book = book
-changed t (refuses n) book = book
+changed t (refuses r) book = book
 
 -- warning days 1 to 90, and a Data Server ID
 unfoldable pub is_setting : Setting → Bool

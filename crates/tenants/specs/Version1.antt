@@ -5,7 +5,7 @@ use Rattle.dates.specs.Calendar.{is_date}
 use Rattle.forms.specs.Order.{demand}
 use Rattle.forms.specs.Identifiers.{is_cell_name, is_cell_key}
 use Rattle.forms.specs.Output.{Output, text, refusal}
-use Rattle.forms.specs.Refusals.{number_of}
+use Rattle.forms.specs.Refusals.{by}
 use Rattle.forms.specs.declared.refusals.Refusal.{Refusal}
 use Rattle.user_permit.specs.Register.{is_register}
 use Rattle.user_permit.specs.UserPermit.{read_permit}
@@ -40,25 +40,25 @@ is_held_before cell =
 -- enter a cell
 unfoldable pub entering_before : ℕ → Held → Own → Change
 entering_before t cell own =
-    demand (is_tenant t) (refuses 102)
-    (demand (is_held_before cell) (refuses 103)
-    (demand (names_none own.setting) (refuses 111)
-    (demand (is_some (cell_of cell.name own.cells) || ltb (length own.cells) own.setting.quota) (refuses 105)
+    demand (is_tenant t) (refuses (by 102))
+    (demand (is_held_before cell) (refuses (by 103))
+    (demand (names_none own.setting) (refuses (by 111))
+    (demand (is_some (cell_of cell.name own.cells) || ltb (length own.cells) own.setting.quota) (refuses (by 105))
     (enters cell))))
 
 -- the line for the ship of a user permit
 abbrev pub line_for_before : Result Ship Refusal → Option Held → Setting → ℕ → ℕ → Output
-line_for_before (Err r) cell setting expiry level = refusal (number_of r)
-line_for_before (Ok ship) none setting expiry level = refusal 104
+line_for_before (Err r) cell setting expiry level = refusal r
+line_for_before (Ok ship) none setting expiry level = refusal (by 104)
 line_for_before (Ok ship) (some cell) setting expiry level = text (line_of (ship_words ship.hw_id) (line_cell setting cell expiry level) ++ line_end)
 
 -- issue a line
 unfoldable pub issuing_before : ℕ → List ℕ → ℕ → ℕ → ℕ → List ℕ → ℕ → Own → Output
 issuing_before t register name expiry level permit room own =
-    demand (is_register register) (refusal 109)
-    (demand (is_tenant t) (refusal 102)
-    (demand (leb 76 room) (refusal 108)
-    (demand (is_cell_name name && is_date expiry && leb level 1) (refusal 103)
+    demand (is_register register) (refusal (by 109))
+    (demand (is_tenant t) (refusal (by 102))
+    (demand (leb 76 room) (refusal (by 108))
+    (demand (is_cell_name name && is_date expiry && leb level 1) (refusal (by 103))
     (line_for_before (read_permit register permit) (cell_of name own.cells) own.setting expiry level))))
 
 -- what a call of tenant t did to what is its own

@@ -10,6 +10,7 @@ use Rattle.text.specs.Texts.{part}
 use Rattle.text.proofs.Raising.{same_hex, same_number, same_part, same_length, written_stays}
 use Rattle.forms.specs.Identifiers.{is_hw_id, raised_hw_id}
 use Rattle.forms.specs.Output.{InCapitals, refusal}
+use Rattle.forms.specs.Refusals.{by}
 use Rattle.forms.proofs.Demands.{demanded}
 use Rattle.forms.proofs.HwIds.{same_form}
 use Rattle.user_permit.specs.Register.{is_register, key_of}
@@ -58,7 +59,7 @@ made_for_in_capitals None hw m = refl
 pub made_in_capitals : MadeInCapitals
 unfolding made
 made_in_capitals register hw m room =
-    demanded InCapitals (is_register register) (refusal 109) _ refl
-    (λ _. demanded InCapitals (leb 28 room) (refusal 108) _ refl
-    (λ _. demanded InCapitals (is_hw_id hw) (refusal 18) _ refl
+    demanded InCapitals (is_register register) (refusal (by 109)) _ refl
+    (λ _. demanded InCapitals (leb 28 room) (refusal (by 108)) _ refl
+    (λ _. demanded InCapitals (is_hw_id hw) (refusal (by 18)) _ refl
     (λ _. made_for_in_capitals (key_of register m) hw m)))

@@ -10,6 +10,8 @@ use Rattle.octets.specs.Numbers.{Below}
 use Rattle.text.specs.Characters.{raised_text}
 use Rattle.forms.specs.Identifiers.{is_hw_id, raised_hw_id}
 use Rattle.forms.specs.Output.{Output, text, refusal, bytes_written}
+use Rattle.forms.specs.Refusals.{by}
+use Rattle.forms.specs.declared.refusals.Refusal.{Refusal}
 use Rattle.forms.proofs.Demands.{passed}
 use Rattle.user_permit.specs.Register.{is_register, key_of}
 use Rattle.user_permit.specs.UserPermit.{user_permit, made_for, made, read_permit}
@@ -28,27 +30,27 @@ record Known (maker : Option ℕ) (hw m : ℕ) (s : List ℕ) : Type 0 where
 
 abbrev is_written : Output → Bool
 is_written (text s) = true
-is_written (refusal n) = false
+is_written (refusal r) = false
 
 module _ (s : List ℕ) where
   abbrev Made : Output → Type 0
   Made o = o ≡ text s
 
-  not_made : (n : ℕ) → Made (refusal n) → ⊥
-  not_made n e = false≢true (ap is_written e)
+  not_made : (r : Refusal) → Made (refusal r) → ⊥
+  not_made r e = false≢true (ap is_written e)
 
   known : (maker : Option ℕ) (hw m : ℕ) → Made (made_for maker hw m) → Known maker hw m s
   known (Some key) hw m is = record { key = key; found = refl; permit = ap bytes_written is }
-  known None hw m is = absurd (not_made 107 is)
+  known None hw m is = absurd (not_made _ is)
 
   -- whatever the output's length, making into 28 bytes gives the same, and it reads back
   made_back : (register : List ℕ) (hw m room : ℕ) → Below 256 register → Made (made register hw m room)
       → Made (made register hw m 28) × (read_permit register s ≡ Ok (record { hw_id = raised_hw_id hw; m_id = m }))
   unfolding made
   made_back register hw m room below is =
-      let one = passed Made (is_register register) (refusal 109) _ (not_made 109) is in
-      let two = passed Made (leb 28 room) (refusal 108) _ (not_made 108) one.1 in
-      let three = passed Made (is_hw_id hw) (refusal 18) _ (not_made 18) two.1 in
+      let one = passed Made (is_register register) (refusal (by 109)) _ (not_made _) is in
+      let two = passed Made (leb 28 room) (refusal (by 108)) _ (not_made _) one.1 in
+      let three = passed Made (is_hw_id hw) (refusal (by 18)) _ (not_made _) two.1 in
       let it = known (key_of register m) hw m three.1 in
       let back = user_permit_reads_back register it.key hw m 28 below one.0 three.0 it.found (omega arith) in
       (back.0 ∙ ap text it.permit, ap (read_permit register) (sym it.permit) ∙ back.1.1)

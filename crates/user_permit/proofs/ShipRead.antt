@@ -12,7 +12,7 @@ use Rattle.text.specs.Texts.{part, all_at}
 use Rattle.crc32.specs.Crc32.{crc32_of}
 use Rattle.blowfish.specs.Cipher.{decipher_of}
 use Rattle.forms.specs.Identifiers.{is_upper_hw_id}
-use Rattle.forms.specs.Refusals.{refused}
+use Rattle.forms.specs.Refusals.{by, refused}
 use Rattle.forms.specs.declared.refusals.Refusal.{Refusal}
 use Rattle.forms.proofs.Demands.{passed}
 use Rattle.forms.proofs.HwIds.{upper_given}
@@ -43,12 +43,12 @@ module _ (ship : Ship) where
   abbrev IsShip : Result Ship Refusal → Type 0
   IsShip answer = answer ≡ Ok ship
 
-  no_ship : (n : ℕ) → IsShip (refused n) → ⊥
-  no_ship n is = cc
+  no_ship : (r : Refusal) → IsShip (refused r) → ⊥
+  no_ship r is = cc
 
   ship_number : (x : Option ℕ) (m : ℕ) → ship_of x m ≡ Ok ship → (x ≡ Some ship.hw_id) × (is_upper_hw_id ship.hw_id ≡ true) × (m ≡ ship.m_id)
   ship_number (Some hw) m is =
-      let it = passed IsShip (is_upper_hw_id hw) (refused 18) (Ok (record { hw_id = hw; m_id = m })) (no_ship 18) is in
+      let it = passed IsShip (is_upper_hw_id hw) (refused (by 18)) (Ok (record { hw_id = hw; m_id = m })) (no_ship _) is in
       let same : hw ≡ ship.hw_id = ap ship_hw_id it.1 in
       (ap Some same, ap is_upper_hw_id (sym same) ∙ it.0, ap ship_mId it.1)
   ship_number None m is = (cc, cc, cc)
@@ -57,14 +57,14 @@ module _ (ship : Ship) where
   deciphered (Some key) s is =
       let it = ship_number (unpad_of 5 (decipher_of (maker_words key) (hex_number (part 16 s 0)))) (permit_mId s) is in
       record { key = key; found = refl; block = it.0; form = it.1; m_id = it.2 }
-  deciphered None s is = absurd (no_ship 107 is)
+  deciphered None s is = absurd (no_ship _ is)
 
 pub accepted : (register s : List ℕ) (ship : Ship) → read_permit register s ≡ Ok ship → Accepted register s ship
 unfolding read_permit permit_says is_crc_right
 accepted register s ship is =
-    let one = passed (IsShip ship) (is_register register) (refused 109) _ (no_ship ship 109) is in
-    let two = passed (IsShip ship) (is_permit_text s) (refused 106) _ (no_ship ship 106) one.1 in
-    let three = passed (IsShip ship) (is_crc_right s) (refused 17) _ (no_ship ship 17) two.1 in
+    let one = passed (IsShip ship) (is_register register) (refused (by 109)) _ (no_ship ship _) is in
+    let two = passed (IsShip ship) (is_permit_text s) (refused (by 106)) _ (no_ship ship _) one.1 in
+    let three = passed (IsShip ship) (is_crc_right s) (refused (by 17)) _ (no_ship ship _) two.1 in
     record {
       undamaged = one.0;
       size = text_size s two.0;

@@ -11,7 +11,7 @@ use Rattle.blowfish.specs.Schedule.{schedule}
 use Rattle.forms.specs.Order.{demand}
 use Rattle.forms.specs.Identifiers.{is_hw_id, is_upper_hw_id, raised_hw_id}
 use Rattle.forms.specs.Output.{Output, text, refusal}
-use Rattle.forms.specs.Refusals.{refused}
+use Rattle.forms.specs.Refusals.{by, refused}
 use Rattle.forms.specs.declared.refusals.Refusal.{Refusal}
 use Rattle.user_permit.specs.Register.{is_register, key_of}
 use Rattle.user_permit.specs.declared.Ship.{Ship}
@@ -39,14 +39,14 @@ user_permit key hw m = hw_id_part key hw ++ (crc_part (hw_id_part key hw) ++ m_i
 -- with the manufacturer's key, if there is one: 107 where M_ID is not in the register
 abbrev pub made_for : Option ℕ → ℕ → ℕ → Output
 made_for (Some key) hw m = text (user_permit key hw m)
-made_for None hw m = refusal 107
+made_for None hw m = refusal (by 107)
 
 -- making one, into an output of so many bytes
 unfoldable pub made : List ℕ → ℕ → ℕ → ℕ → Output
 made register hw m room =
-    demand (is_register register) (refusal 109)
-    (demand (leb 28 room) (refusal 108)
-    (demand (is_hw_id hw) (refusal 18)
+    demand (is_register register) (refusal (by 109))
+    (demand (leb 28 room) (refusal (by 108))
+    (demand (is_hw_id hw) (refusal (by 18))
     (made_for (key_of register m) hw m)))
 
 -- 28 of 0-9 A-F a-f
@@ -63,21 +63,21 @@ permit_mId permit = hex_number (part 4 permit 24)
 
 -- what was deciphered has its padding and the form of a HW_ID in upper case, else 18
 abbrev pub ship_of : Option ℕ → ℕ → Result Ship Refusal
-ship_of (Some hw) m = demand (is_upper_hw_id hw) (refused 18) (Ok (record { hw_id = hw; m_id = m }))
-ship_of None m = refused 18
+ship_of (Some hw) m = demand (is_upper_hw_id hw) (refused (by 18)) (Ok (record { hw_id = hw; m_id = m }))
+ship_of None m = refused (by 18)
 
 -- with the manufacturer's key, if there is one: 107 where M_ID is not in the register
 abbrev pub read_under : Option ℕ → List ℕ → Result Ship Refusal
 read_under (Some key) permit = ship_of (unpad_of 5 (decipher_of (maker_words key) (hex_number (part 16 permit 0)))) (permit_mId permit)
-read_under None permit = refused 107
+read_under None permit = refused (by 107)
 
 -- what one says by the register's entries: 106, 17, 107, 18 in their order, or its ship
 unfoldable pub permit_says : List ℕ → List ℕ → Result Ship Refusal
 permit_says register permit =
-    demand (is_permit_text permit) (refused 106)
-    (demand (is_crc_right permit) (refused 17)
+    demand (is_permit_text permit) (refused (by 106))
+    (demand (is_crc_right permit) (refused (by 17))
     (read_under (key_of register (permit_mId permit)) permit))
 
 -- reading one
 unfoldable pub read_permit : List ℕ → List ℕ → Result Ship Refusal
-read_permit register permit = demand (is_register register) (refused 109) (permit_says register permit)
+read_permit register permit = demand (is_register register) (refused (by 109)) (permit_says register permit)

@@ -10,7 +10,7 @@ use Rattle.asking.proofs.ask_edition.Goals as goal
 pub returns-in_err-cell : goal.returns-in_err-cell
 returns-in_err-cell c =
     let so = sym c.judge.ensures ∙ c.in-Some.is in
-    let told = sym (c.held.ensures ∙ finds_own _ _ _ _ so (search rules)) ∙ c.in_err-cell.was in
+    let told = sym (c.ok_or.ensures.value ∙ finds_own _ _ _ _ so (search rules) _ c.held.ensures) ∙ c.in_err-cell.was in
     let p = err_from_is_err_and c.from_residual.result c.from_residual.ensures.1 in
     rw (p.1, p.2)
     (sym
@@ -21,7 +21,7 @@ returns-in_err-cell c =
 pub returns : goal.returns
 returns c =
     let so = sym c.judge.ensures ∙ c.in-Some.is in
-    let told = sym (c.held.ensures ∙ finds_own _ _ _ _ so (search rules)) ∙ c.in_ok-cell.was in
+    let told = sym (c.ok_or.ensures.value ∙ finds_own _ _ _ _ so (search rules) _ c.held.ensures) ∙ c.in_ok-cell.was in
     sym
     (edition-ruled _ _ _ (judged_undamaged _ _ _ so)
     ∙ asking-named _ _ _ (tenant_is _ c.if-tenant-gt15.false) (sym c.is_cell_name.ensures ∙ c.if-not-is_cell_name.false)

@@ -11,13 +11,14 @@ use Rattle.octets.proofs.Every.{and_first, and_second}
 use Rattle.dates.specs.Calendar.{is_date}
 use Rattle.forms.specs.Identifiers.{is_cell_name}
 use Rattle.forms.specs.declared.refusals.Refusal.{Refusal}
+use Rattle.forms.proofs.Outputs.{refused}
 use Rattle.user_permit.specs.declared.Ship.{Ship}
 use Rattle.user_permit.proofs.UserPermits.{read_undamaged}
 use Rattle.tenants.specs.Cells.{cell_of}
 use Rattle.tenants.specs.Rules.{line_for}
 use Rattle.tenants.proofs.Ranges.{tenant_is}
 use Rattle.layout.specs.Layout.{own_in}
-use Rattle.asking.proofs.AnswerRules.{answered_same, judged_undamaged, issued-line, line-refused}
+use Rattle.asking.proofs.AnswerRules.{answered_same, judged_undamaged, issued-line}
 use Rattle.asking.proofs.LineWritten.{line-written}
 use Rattle.asking.proofs.issue.Goals as goal
 
@@ -34,7 +35,7 @@ returns-in_err-ship c =
     let read = read_undamaged args.register.now args.permit.now registered ∙ sym c.read_by.ensures ∙ c.in_err-ship.was in
     let p = err_from_is_err_and c.from_residual.result c.from_residual.ensures.1 in
     rw (p.1, p.2)
-    (line-refused _ _ _
+    (refused _ _ _
     (line ∙ ap (λ (ship : Result Ship Refusal). line_for ship (cell_of order.name own.cells) own.setting order.expiry order.level) read))
 
 pub returns : goal.returns

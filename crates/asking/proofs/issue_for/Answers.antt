@@ -14,20 +14,20 @@ use Rattle.asking.proofs.issue_for.Goals as goal
 
 pub returns-in_err-held : goal.returns-in_err-held
 returns-in_err-held c =
-    let told = sym (c.held.ensures ∙ finds_own _ _ _ _ c.requires.0 (search rules)) ∙ c.in_err-held.was in
+    let told = sym (c.ok_or.ensures.value ∙ finds_own _ _ _ _ c.requires.0 (search rules) _ c.held.ensures) ∙ c.in_err-held.was in
     let p = err_from_is_err_and c.from_residual.result c.from_residual.ensures.1 in
     rw (p.1, p.2) (line-absent _ _ _ _ _ _ _ _ told)
 
 pub returns-then-not-in_time : goal.returns-then-not-in_time
 returns-then-not-in_time c =
-    let told = sym (c.held.ensures ∙ finds_own _ _ _ _ c.requires.0 (search rules)) ∙ c.in_ok-held.was in
-    refused _ 112 _ (line-late _ _ _ _ _ _ _ told (sym c.in_time.ensures ∙ c.if-not-in_time.true))
+    let told = sym (c.ok_or.ensures.value ∙ finds_own _ _ _ _ c.requires.0 (search rules) _ c.held.ensures) ∙ c.in_ok-held.was in
+    refused _ _ _ (line-late _ _ _ _ _ _ _ told (sym c.in_time.ensures ∙ c.if-not-in_time.true))
 
 pub returns : goal.returns
 returns c =
     let args = c.args in
     let order = args.order in
-    let told = sym (c.held.ensures ∙ finds_own _ _ _ _ c.requires.0 (search rules)) ∙ c.in_ok-held.was in
+    let told = sym (c.ok_or.ensures.value ∙ finds_own _ _ _ _ c.requires.0 (search rules) _ c.held.ensures) ∙ c.in_ok-held.was in
     answered_same _ _ _ _ _
     (line-held _ _ _ _ _ _ _ told _ (own_setting args.book.now args.tenant c.requires.1) (sym c.in_time.ensures ∙ c.if-not-in_time.false)
     ∙ sym

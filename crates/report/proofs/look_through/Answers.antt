@@ -2,9 +2,9 @@
 -- Assumes nothing.
 use Rattle.std.proofs.Common.{◌≡◌, ℕ, ◌≤◌, List, length, refl, sym, ap, ◌∙◌, arith}
 use Rattle.text.specs.Texts.{placed}
-use Rattle.report.specs.LookThrough.{file_of, answers_of, refused_text, report, room_for, start_number}
+use Rattle.forms.specs.Refusals.{refusal_number}
+use Rattle.report.specs.LookThrough.{file_of, answers_of, refused_text, report, room_for}
 use Rattle.report.specs.Turns.{tally_of}
-use Rattle.report.proofs.Starts.{none_done, refused_start}
 use Rattle.report.proofs.Reports.{no_room, least_room, why_refused, refused_short, report-fits, answered}
 use Rattle.report.proofs.look_through.Goals as goal
 
@@ -22,9 +22,8 @@ returns-in-Err c =
     let input = c.args.input.now in
     let out = c.args.out.now in
     let room : room_for input ≤ length out = omega (arith, c.room_for.ensures, c.if-out-room_for.false) in
-    let refused = refused_start input c.in-Err.refusal c.in-Err.ensures in
     let why : report input ≡ refused_text c.number.result =
-    why_refused input refused.1 ∙ ap refused_text (sym (c.number.ensures ∙ refused.0)) in
+    why_refused input c.in-Err.refusal c.in-Err.ensures ∙ ap refused_text (sym c.number.ensures) in
     answered input out room
     (omega (arith, ap length why, refused_short c.number.result (omega arith), least_room input, room))
     c.put_refused.result c.put_refused.new.out
@@ -33,7 +32,7 @@ returns-in-Err c =
 
 pub list_all-requires : goal.list_all-requires
 list_all-requires c = record {
-  input_value = none_done (start_number c.args.input.now) (sym c.in-Ok.ensures);
+  input_value = ap refusal_number (sym c.in-Ok.ensures);
   input_in_bounds = omega (arith, c.room_for.ensures, c.if-out-room_for.false);
 }
 
@@ -42,7 +41,7 @@ returns-in-Ok c =
     let input = c.args.input.now in
     let out = c.args.out.now in
     let room : room_for input ≤ length out = omega (arith, c.room_for.ensures, c.if-out-room_for.false) in
-    let good = none_done (start_number input) (sym c.in-Ok.ensures) in
+    let good = ap refusal_number (sym c.in-Ok.ensures) in
     answered input out room
     (report-fits input good out room (tally_of (length (file_of input)) (answers_of input)) refl)
     c.list_all.result c.list_all.new.out c.list_all.ensures.0 c.list_all.ensures.1
