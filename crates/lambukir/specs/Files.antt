@@ -1,8 +1,8 @@
 -- The answers about permit files in the form that C sees.
 use Rattle.std.specs.Prelude.{cond, ℕ, Result, Ok, Err}
-use Rattle.forms.specs.Refusals.{number_of}
+use Rattle.forms.specs.Refusals.{number_of, refusal_number}
 use Rattle.forms.specs.declared.refusals.Refusal.{Refusal}
-use Rattle.permit_file.specs.File.{step_number, step_values, next_place, is_end}
+use Rattle.permit_file.specs.File.{open_place, step_number, step_values, next_place, is_end}
 use Rattle.permit_file.specs.declared.Cursor.{Cursor}
 use Rattle.permit_file.specs.declared.Step.{Step}
 use Rattle.mending.specs.declared.Lengths.{Lengths}
@@ -12,8 +12,7 @@ use Rattle.lambukir.specs.declared.files.FileMended.{FileMended}
 
 -- a file that was opened: the place of the first line, or the refusal
 abbrev pub file_opened : Result Cursor Refusal → FileOpened
-file_opened (Ok c) = record { place = c.place; number = 0 }
-file_opened (Err r) = record { place = 0; number = number_of r }
+file_opened o = record { place = open_place o; number = refusal_number o }
 
 -- 1 at the end of the file
 abbrev pub end_flag : Step → ℕ

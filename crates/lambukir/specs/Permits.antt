@@ -1,7 +1,9 @@
 -- The answers about permits in the form that C sees: at a refusal every field but the number is 0.
-use Rattle.std.specs.Prelude.{List, ℕ, ◌-◌, length, Option, Some, None, Result, Ok, Err}
-use Rattle.forms.specs.Refusals.{number_of}
+use Rattle.std.specs.Prelude.{List, ℕ, ◌-◌, length, Option, Some, None, Result}
+use Rattle.forms.specs.Output.{written_length}
+use Rattle.forms.specs.Refusals.{refusal_number}
 use Rattle.forms.specs.declared.refusals.Refusal.{Refusal}
+use Rattle.user_permit.specs.Answers.{ship_hw_id, ship_mId}
 use Rattle.user_permit.specs.declared.Ship.{Ship}
 use Rattle.cell_permit.specs.Line.{comment_at, line_number}
 use Rattle.cell_permit.specs.Answers.{line_values}
@@ -26,8 +28,7 @@ cell_from name expiry key1 key2 level edition server = record {
 
 -- a user permit that was read
 abbrev pub user_permit_read : Result Ship Refusal → UserPermitRead
-user_permit_read (Ok ship) = record { hw = ship.hw_id; m = ship.m_id; number = 0 }
-user_permit_read (Err r) = record { hw = 0; m = 0; number = number_of r }
+user_permit_read u = record { hw = ship_hw_id u; m = ship_mId u; number = refusal_number u }
 
 -- a line that was read; the number of a record is that of its notice
 abbrev pub line_read : Result Record Refusal → LineRead
@@ -44,8 +45,7 @@ line_read l = record {
 
 -- a text that was written
 abbrev pub text_written : Result ℕ Refusal → TextWritten
-text_written (Ok n) = record { length = n; number = 0 }
-text_written (Err r) = record { length = 0; number = number_of r }
+text_written w = record { length = written_length w; number = refusal_number w }
 
 -- where the comment stands in a line of so many bytes; 0 and 0 for a line that gives 12
 abbrev pub part_from : ℕ → Option ℕ → Part
